@@ -1,0 +1,76 @@
+-- A refusal of 0, taken apart: each of its tests fails. From it, that there is room for what the line counts up. Assumes nothing.
+use mathlib.Core.Bool.{Bool, cond, false, true}
+use mathlib.Core.Path.{_≡_, refl}
+use Prim.Native.Nat.{ℕ, suc}
+use native.Mathlib.Omega.{arith}
+use borrow.Author.Tests.{leb-false}
+use Rattle.acts.specs.Acts.{Ready, Room}
+use Rattle.lines.specs.declared.Line.{Line}
+use Rattle.lines.specs.declared.Wait.{Wait}
+use Rattle.lines.specs.declared.Wait.the-variants.{ForFlag, ForLink, ForUnlock, NoWait}
+use Rattle.lines.specs.declared.Window.{Window}
+use Rattle.lock.specs.declared.Node.{Node}
+use Rattle.number.specs.Sizes.{lastPlace, mostEntries}
+use Rattle.number.specs.declared.NodeNo.{NodeNo}
+use Rattle.refusals.specs.Refusals.{badNode, counts, followsEmpty, followsUnused, mustStay, noEntry, noPlace, refusal, takenNode, waitNumber}
+use Rattle.refusals.specs.declared.Count.{Count}
+use Rattle.refusals.specs.declared.Count.the-variants.{Entries, High, Low, Nothing}
+
+-- no refusal applies to the window's line that follows node k and is given node n
+pub record Clear (w : Window) (r : Line) (k n : NodeNo) : Type 0 where
+  pub node : badNode (counts (r .act)) (w .shared .nodes) n ≡ false
+  pub entry : noEntry (counts (r .act)) (w .shared .entered) ≡ false
+  pub free : takenNode (counts (r .act)) (w .shared .used) n ≡ false
+  pub there : followsEmpty (r .follow) k ≡ false
+  pub used : followsUnused (w .shared .used) k ≡ false
+  pub place : noPlace (counts (r .act)) (w .shared .high) (w .shared .low) ≡ false
+  pub go : mustStay (r .wait) (w .shared .flag) (w .node) ≡ false
+
+-- a test whose number is not 0 fails where the answer is 0
+passed : (b : Bool) (a later : ℕ) → cond b (suc a) later ≡ 0 → (b ≡ false) × (later ≡ 0)
+passed true a later h = absurd (omega arith)
+passed false a later h = (refl, h)
+
+-- a line that waits has a number for it
+waited : (wait : Wait) (flag : ℕ) (nd : Node) → cond (mustStay wait flag nd) (waitNumber wait) 0 ≡ 0 → mustStay wait flag nd ≡ false
+unfolding mustStay waitNumber
+waited NoWait flag nd h = refl
+waited ForFlag flag nd h = passed (mustStay ForFlag flag nd) 11 0 h .0
+waited ForUnlock flag nd h = passed (mustStay ForUnlock flag nd) 11 0 h .0
+waited ForLink flag nd h = passed (mustStay ForLink flag nd) 11 0 h .0
+
+pub clear : (w : Window) (r : Line) (k n : NodeNo) → refusal w r k n ≡ 0 → Clear w r k n
+unfolding refusal
+clear w r k n h =
+    let sh = w .shared in
+    let c = counts (r .act) in
+    let r6 = passed (badNode c (sh .nodes) n) 5 _ h in
+    let r7 = passed (noEntry c (sh .entered)) 6 _ (r6 .1) in
+    let r8 = passed (takenNode c (sh .used) n) 7 _ (r7 .1) in
+    let r9 = passed (followsEmpty (r .follow) k) 8 _ (r8 .1) in
+    let r10 = passed (followsUnused (sh .used) k) 9 _ (r9 .1) in
+    let r11 = passed (noPlace c (sh .high) (sh .low)) 10 _ (r10 .1) in
+    record {
+      node = r6 .0;
+      entry = r7 .0;
+      free = r8 .0;
+      there = r9 .0;
+      used = r10 .0;
+      place = r11 .0;
+      go = waited (r .wait) (sh .flag) (w .node) (r11 .1);
+    }
+
+pub cleared : (w : Window) (r : Line) (k n : NodeNo) → Clear w r k n → refusal w r k n ≡ 0
+unfolding refusal
+cleared w r k n c = rw (c .node, c .entry, c .free, c .there, c .used, c .place, c .go)
+
+-- the limits that are not met leave room
+room : (c : Count) (w : Window) → noEntry c (w .shared .entered) ≡ false → noPlace c (w .shared .high) (w .shared .low) ≡ false → Room c w
+unfolding noEntry noPlace
+room Nothing w e p = tt
+room Entries w e p = leb-false mostEntries (w .shared .entered) e
+room High w e p = leb-false lastPlace (w .shared .high .0) p
+room Low w e p = leb-false lastPlace (w .shared .low .0) p
+
+pub ready : (w : Window) (r : Line) (k n : NodeNo) → refusal w r k n ≡ 0 → Ready (r .act) w
+ready w r k n h = let c = clear w r k n h in room (counts (r .act)) w (c .entry) (c .place)

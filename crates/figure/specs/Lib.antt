@@ -1,0 +1,2 @@
+-- Figure 1 of source document 000.
+pub mod Figure

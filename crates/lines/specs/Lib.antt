@@ -1,0 +1,2 @@
+-- The table of the nineteen lines, and the window that a line works on.
+pub mod Lines

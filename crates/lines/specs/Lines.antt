@@ -1,0 +1,99 @@
+-- Document 01, "The nineteen lines": "A constant table of the nineteen lines gives each one's followed node, its wait and its follow-on lines."
+-- Each row stands under document 01's own. What the acts named here do is in Acts (crate `acts`). Assumes nothing.
+use mathlib.Core.Bool.{Bool, cond, true}
+use mathlib.Core.List.{List, [], _∷_}
+use Prim.Native.Nat.{ℕ, _-_}
+use lib.Dec.{ltb}
+use lib.ListN.{getD}
+use Rattle.lock.specs.declared.Node.{Node}
+use Rattle.lock.specs.declared.Shared.{Shared}
+use Rattle.lock.specs.declared.Thread.{Thread}
+use Rattle.number.specs.Numbers.{isNone, none, same}
+use Rattle.number.specs.declared.NodeNo.{NodeNo}
+use Rattle.lines.specs.declared.Act.{Act}
+use Rattle.lines.specs.declared.Act.the-variants.{Choose, ClearNext, SetLocked, Exchange, Stay, LowerFlag, LinkPrev, ReadNext, CloseTail, SendMess, Release, TakeMess, PassOn}
+use Rattle.lines.specs.declared.Follow.{Follow}
+use Rattle.lines.specs.declared.Follow.the-variants.{NoNode, My, Prev, Succ}
+use Rattle.lines.specs.declared.Line.{Line}
+use Rattle.lines.specs.declared.Look.{Look}
+use Rattle.lines.specs.declared.Look.the-variants.{AtPrev, AtSucc, AtTail, Straight}
+use Rattle.lines.specs.declared.Wait.{Wait}
+use Rattle.lines.specs.declared.Wait.the-variants.{ForFlag, ForLink, ForUnlock, NoWait}
+use Rattle.lines.specs.declared.Window.{Window}
+
+-- a row: what the line does, the node it follows, what it waits for, what it looks at, and its follow-on lines
+abbrev pub row : Act → Follow → Wait → Look → ℕ → ℕ → Line
+row act follow wait look goes other = record { act = act; follow = follow; wait = wait; look = look; goes = goes; other = other }
+
+-- lines 11 to 29, in order
+abbrev pub lines : List Line
+lines =
+    -- 11 | my := the event's node, put in use; entered + 1 | 12
+    row Choose NoNode NoWait Straight 12 12
+    -- 12 | next(my) := 0 | 13
+    ∷ row ClearNext My NoWait Straight 13 13
+    -- 13 | locked(my) := 1 | 14
+    ∷ row SetLocked My NoWait Straight 14 14
+    -- 14 | prev := tail; tail := my; slot := high; high + 1 | 15
+    ∷ row Exchange NoNode NoWait Straight 15 15
+    -- 15 | looks at prev | 16 if 0, else 18
+    ∷ row Stay NoNode NoWait AtPrev 16 18
+    -- 16 | waits until flag is 1 | 17
+    ∷ row Stay NoNode ForFlag Straight 17 17
+    -- 17 | flag := 0 | 20
+    ∷ row LowerFlag NoNode NoWait Straight 20 20
+    -- 18 | next(prev) := my | 19
+    ∷ row LinkPrev Prev NoWait Straight 19 19
+    -- 19 | waits until locked(my) is 0 | 20
+    ∷ row Stay My ForUnlock Straight 20 20
+    -- 20 | nxmy and succ := next(my) | 21
+    ∷ row ReadNext My NoWait Straight 21 21
+    -- 21 | looks at succ | 22 if 0, else 25
+    ∷ row Stay NoNode NoWait AtSucc 22 25
+    -- 22 | if tail = my then tail := 0 | 25 if it was, else 23
+    ∷ row CloseTail NoNode NoWait AtTail 25 23
+    -- 23 | waits until next(my) is not 0 | 24
+    ∷ row Stay My ForLink Straight 24 24
+    -- 24 | nxmy and succ := next(my) | 25
+    ∷ row ReadNext My NoWait Straight 25 25
+    -- 25 | mess := succ | 26
+    ∷ row SendMess NoNode NoWait Straight 26 26
+    -- 26 | succ := 0; my is no longer in use (the number stays) | 27
+    ∷ row Release My NoWait Straight 27 27
+    -- 27 | the critical section | 28
+    ∷ row Stay NoNode NoWait Straight 28 28
+    -- 28 | succ := mess | 29
+    ∷ row TakeMess NoNode NoWait Straight 29 29
+    -- 29 | if succ is not 0, locked(succ) := 0, else flag := 1; low + 1 | 11
+    ∷ row PassOn Succ NoWait Straight 11 11
+    ∷ []
+
+-- a number that is no line
+abbrev pub offTable : Line
+offTable = row Stay NoNode NoWait Straight 0 0
+
+-- the row of a line: the table "indexed by line minus 11"
+unfoldable pub lineAt : ℕ → Line
+lineAt n = cond (ltb n 11) offTable (getD lines (n - 11) offTable)
+
+-- the node that a thread's line follows; 0 where it follows none
+unfoldable pub followedBy : Follow → Thread → NodeNo
+followedBy NoNode v = none
+followedBy My v = v .my
+followedBy Prev v = v .prev
+followedBy Succ v = v .succ
+
+-- what a line works on: the shared numbers, its thread, and the node that it follows
+abbrev pub window : Shared → Thread → Node → Window
+window sh v nd = record { shared = sh; thread = v; node = nd }
+
+-- "looks at prev", 16 if 0; "looks at succ", 22 if 0; "if tail = my", 25 if it was
+unfoldable pub goesFirst : Look → Window → Bool
+goesFirst Straight w = true
+goesFirst AtPrev w = isNone (w .thread .prev)
+goesFirst AtSucc w = isNone (w .thread .succ)
+goesFirst AtTail w = same (w .shared .tail) (w .thread .my)
+
+-- the line that comes next
+abbrev pub nextLine : Line → Window → ℕ
+nextLine r w = cond (goesFirst (r .look) w) (r .goes) (r .other)

@@ -1,0 +1,291 @@
+// The nineteen lines of Figure 1 as one constant table, and the window that a line works on: the shared numbers, one thread, and
+// the one node that its line follows. The table is the only place in code that knows what a line follows, waits for and goes on to.
+// Rests on `number` and `lock`.
+ghost use mathlib.Core.Path.{_≡_};
+ghost use Rattle.lines.specs.Lines.{followedBy, goesFirst, lineAt, nextLine, offTable};
+use lock::FIRST_LINE;
+use lock::LAST_LINE;
+use lock::Node;
+use lock::Shared;
+use lock::Thread;
+use number::NodeNo;
+
+// What a line does, but for the line number.
+pub enum Act {
+    Choose,
+    ClearNext,
+    SetLocked,
+    Exchange,
+    Stay,
+    LowerFlag,
+    LinkPrev,
+    ReadNext,
+    CloseTail,
+    SendMess,
+    Release,
+    TakeMess,
+    PassOn,
+}
+
+// The node that a line follows; succ only where it is not 0.
+pub enum Follow {
+    NoNode,
+    My,
+    Prev,
+    Succ,
+}
+
+// What a line waits for: the flag, the unlock of my, or the link from my.
+pub enum Wait {
+    NoWait,
+    ForFlag,
+    ForUnlock,
+    ForLink,
+}
+
+// What a line looks at to choose between its two follow-on lines.
+pub enum Look {
+    Straight,
+    AtPrev,
+    AtSucc,
+    AtTail,
+}
+
+// A row of the table. `goes` is the follow-on line, and `other` the one where what the line looks at is not so.
+pub struct Line {
+    pub act: Act,
+    pub follow: Follow,
+    pub wait: Wait,
+    pub look: Look,
+    pub goes: u8,
+    pub other: u8,
+}
+
+pub struct Window {
+    pub shared: Shared,
+    pub thread: Thread,
+    pub node: Node,
+}
+
+const LINES: [Line; 19] = [
+    Line {
+        act: Act::Choose,
+        follow: Follow::NoNode,
+        wait: Wait::NoWait,
+        look: Look::Straight,
+        goes: 12,
+        other: 12,
+    },
+    Line {
+        act: Act::ClearNext,
+        follow: Follow::My,
+        wait: Wait::NoWait,
+        look: Look::Straight,
+        goes: 13,
+        other: 13,
+    },
+    Line {
+        act: Act::SetLocked,
+        follow: Follow::My,
+        wait: Wait::NoWait,
+        look: Look::Straight,
+        goes: 14,
+        other: 14,
+    },
+    Line {
+        act: Act::Exchange,
+        follow: Follow::NoNode,
+        wait: Wait::NoWait,
+        look: Look::Straight,
+        goes: 15,
+        other: 15,
+    },
+    Line {
+        act: Act::Stay,
+        follow: Follow::NoNode,
+        wait: Wait::NoWait,
+        look: Look::AtPrev,
+        goes: 16,
+        other: 18,
+    },
+    Line {
+        act: Act::Stay,
+        follow: Follow::NoNode,
+        wait: Wait::ForFlag,
+        look: Look::Straight,
+        goes: 17,
+        other: 17,
+    },
+    Line {
+        act: Act::LowerFlag,
+        follow: Follow::NoNode,
+        wait: Wait::NoWait,
+        look: Look::Straight,
+        goes: 20,
+        other: 20,
+    },
+    Line {
+        act: Act::LinkPrev,
+        follow: Follow::Prev,
+        wait: Wait::NoWait,
+        look: Look::Straight,
+        goes: 19,
+        other: 19,
+    },
+    Line {
+        act: Act::Stay,
+        follow: Follow::My,
+        wait: Wait::ForUnlock,
+        look: Look::Straight,
+        goes: 20,
+        other: 20,
+    },
+    Line {
+        act: Act::ReadNext,
+        follow: Follow::My,
+        wait: Wait::NoWait,
+        look: Look::Straight,
+        goes: 21,
+        other: 21,
+    },
+    Line {
+        act: Act::Stay,
+        follow: Follow::NoNode,
+        wait: Wait::NoWait,
+        look: Look::AtSucc,
+        goes: 22,
+        other: 25,
+    },
+    Line {
+        act: Act::CloseTail,
+        follow: Follow::NoNode,
+        wait: Wait::NoWait,
+        look: Look::AtTail,
+        goes: 25,
+        other: 23,
+    },
+    Line {
+        act: Act::Stay,
+        follow: Follow::My,
+        wait: Wait::ForLink,
+        look: Look::Straight,
+        goes: 24,
+        other: 24,
+    },
+    Line {
+        act: Act::ReadNext,
+        follow: Follow::My,
+        wait: Wait::NoWait,
+        look: Look::Straight,
+        goes: 25,
+        other: 25,
+    },
+    Line {
+        act: Act::SendMess,
+        follow: Follow::NoNode,
+        wait: Wait::NoWait,
+        look: Look::Straight,
+        goes: 26,
+        other: 26,
+    },
+    Line {
+        act: Act::Release,
+        follow: Follow::My,
+        wait: Wait::NoWait,
+        look: Look::Straight,
+        goes: 27,
+        other: 27,
+    },
+    Line {
+        act: Act::Stay,
+        follow: Follow::NoNode,
+        wait: Wait::NoWait,
+        look: Look::Straight,
+        goes: 28,
+        other: 28,
+    },
+    Line {
+        act: Act::TakeMess,
+        follow: Follow::NoNode,
+        wait: Wait::NoWait,
+        look: Look::Straight,
+        goes: 29,
+        other: 29,
+    },
+    Line {
+        act: Act::PassOn,
+        follow: Follow::Succ,
+        wait: Wait::NoWait,
+        look: Look::Straight,
+        goes: 11,
+        other: 11,
+    },
+];
+
+// A number that is no line: nothing is done, followed or waited for.
+fn off_table() -> Line
+    ensures { λ r. ⌜ r ≡ offTable ⌝ }
+{
+    Line {
+        act: Act::Stay,
+        follow: Follow::NoNode,
+        wait: Wait::NoWait,
+        look: Look::Straight,
+        goes: 0,
+        other: 0,
+    }
+}
+
+// The table's row of a line.
+pub fn line_of(line: u8) -> Line
+    ensures { λ r. ⌜ r ≡ lineAt line ⌝ }
+{
+    if line < FIRST_LINE {
+        return off_table();
+    }
+    if LAST_LINE < line {
+        return off_table();
+    }
+    let i = (line - FIRST_LINE) as usize;
+    LINES[i]
+}
+
+// The node that a thread's line follows; 0 where it follows none.
+pub fn followed(f: Follow, v: Thread) -> NodeNo
+    ensures { λ r. ⌜ r ≡ followedBy f v ⌝ }
+{
+    match f {
+        Follow::NoNode => NodeNo(0),
+        Follow::My => v.my,
+        Follow::Prev => v.prev,
+        Follow::Succ => v.succ,
+    }
+}
+
+// What the line looks at is so: the first of its follow-on lines comes next.
+fn goes_first(look: Look, w: Window) -> bool
+    ensures { λ r. ⌜ r ≡ goesFirst look w ⌝ }
+{
+    let prev = w.thread.prev.0;
+    let succ = w.thread.succ.0;
+    let my = w.thread.my.0;
+    let tail = w.shared.tail.0;
+    match look {
+        Look::Straight => true,
+        Look::AtPrev => prev == 0,
+        Look::AtSucc => succ == 0,
+        Look::AtTail => tail == my,
+    }
+}
+
+// The line that comes next, by what the window shows before the line is executed.
+pub fn next_line(row: Line, w: Window) -> u8
+    ensures { λ r. ⌜ r ≡ nextLine row w ⌝ }
+{
+    let look = row.look;
+    if goes_first(look, w) {
+        row.goes
+    } else {
+        row.other
+    }
+}

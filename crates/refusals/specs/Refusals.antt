@@ -1,0 +1,126 @@
+-- Document 01, "Refusal numbers": 6 to 12, in its order, as the step judges them on a line's window. (The same conditions in document 01's own
+-- words, by line numbers, are in Conditions, crate `step`, with the theorem that the two agree.) Assumes nothing.
+use mathlib.Core.Bool.{Bool, cond, false, not, _&&_, _||_}
+use mathlib.Core.List.{List, [], _∷_}
+use Prim.Native.Nat.{ℕ}
+use lib.Dec.{eqb, leb, ltb}
+use Rattle.lines.specs.declared.Act.{Act}
+use Rattle.lines.specs.declared.Act.the-variants.{Choose, ClearNext, SetLocked, Exchange, Stay, LowerFlag, LinkPrev, ReadNext, CloseTail, SendMess, Release, TakeMess, PassOn}
+use Rattle.lines.specs.declared.Follow.{Follow}
+use Rattle.lines.specs.declared.Follow.the-variants.{My, NoNode, Prev, Succ}
+use Rattle.lines.specs.declared.Line.{Line}
+use Rattle.lines.specs.declared.Wait.{Wait}
+use Rattle.lines.specs.declared.Wait.the-variants.{ForFlag, ForLink, ForUnlock, NoWait}
+use Rattle.lines.specs.declared.Window.{Window}
+use Rattle.lock.specs.declared.Node.{Node}
+use Rattle.number.specs.Numbers.{isNone}
+use Rattle.number.specs.Refused.{done, followedEmpty, followedUnused, mustWait, noEntryLeft, noPlaceLeft, nodeTaken, wrongNode}
+use Rattle.number.specs.Sizes.{lastPlace, mostEntries}
+use Rattle.number.specs.declared.NodeNo.{NodeNo}
+use Rattle.number.specs.declared.Place.{Place}
+use Rattle.word.specs.Word.{inUse}
+use Rattle.refusals.specs.declared.Count.{Count}
+use Rattle.refusals.specs.declared.Count.the-variants.{Entries, High, Low, Nothing}
+
+infix 50 _when_
+-- ---- what is judged
+
+-- what an act counts up: line 11 the entries, line 14 high, line 29 low
+unfoldable pub counts : Act → Count
+counts Choose = Entries
+counts ClearNext = Nothing
+counts SetLocked = Nothing
+counts Exchange = High
+counts Stay = Nothing
+counts LowerFlag = Nothing
+counts LinkPrev = Nothing
+counts ReadNext = Nothing
+counts CloseTail = Nothing
+counts SendMess = Nothing
+counts Release = Nothing
+counts TakeMess = Nothing
+counts PassOn = Low
+
+-- 6: "at line 11 the node is not 1 to K; elsewhere it is not 0"
+unfoldable pub badNode : Count → ℕ → NodeNo → Bool
+badNode Entries nodes n = isNone n || ltb nodes (n .0)
+badNode Nothing nodes n = not (isNone n)
+badNode High nodes n = not (isNone n)
+badNode Low nodes n = not (isNone n)
+
+-- 7: "line 11 with entered = 1,000,000"
+unfoldable pub noEntry : Count → ℕ → Bool
+noEntry Entries entered = leb mostEntries entered
+noEntry Nothing entered = false
+noEntry High entered = false
+noEntry Low entered = false
+
+-- 8: "line 11 with a node in use"
+unfoldable pub takenNode : Count → ℕ → NodeNo → Bool
+takenNode Entries used n = inUse used n
+takenNode Nothing used n = false
+takenNode High used n = false
+takenNode Low used n = false
+
+-- 9: "a followed node is 0"; succ is followed only where it is not 0
+unfoldable pub followsEmpty : Follow → NodeNo → Bool
+followsEmpty NoNode k = false
+followsEmpty My k = isNone k
+followsEmpty Prev k = isNone k
+followsEmpty Succ k = false
+
+-- 10: "a followed node is not in use"
+abbrev pub followsUnused : ℕ → NodeNo → Bool
+followsUnused used k = not (isNone k) && not (inUse used k)
+
+-- 11: "line 14 with high, or line 29 with low, at 1,000,001"
+unfoldable pub noPlace : Count → Place → Place → Bool
+noPlace Nothing high low = false
+noPlace Entries high low = false
+noPlace High high low = leb lastPlace (high .0)
+noPlace Low high low = leb lastPlace (low .0)
+
+-- 12: "the line waits and its condition does not hold"
+unfoldable pub mustStay : Wait → ℕ → Node → Bool
+mustStay NoWait flag nd = false
+mustStay ForFlag flag nd = not (eqb flag 1)
+mustStay ForUnlock flag nd = not (eqb (nd .locked) 0)
+mustStay ForLink flag nd = isNone (nd .next)
+
+-- the number that a wait is answered with
+unfoldable pub waitNumber : Wait → ℕ
+waitNumber NoWait = done
+waitNumber ForFlag = mustWait
+waitNumber ForUnlock = mustWait
+waitNumber ForLink = mustWait
+
+-- ---- the table of refusals
+
+pub record Refusal : Type 0 where
+  pub number : ℕ
+  pub applies : Bool
+
+abbrev pub _when_ : ℕ → Bool → Refusal
+number when test = record { number = number; applies = test }
+
+-- "The first that applies, in this order, is given"; "Success is 0."
+abbrev pub firstOf : List Refusal → ℕ
+firstOf [] = done
+firstOf (r ∷ rs) = cond (r .applies) (r .number) (firstOf rs)
+
+-- the refusals of a window's line that follows node k and is given node n
+abbrev pub refusals : Window → Line → NodeNo → NodeNo → List Refusal
+refusals w r k n =
+    let sh = w .shared in
+    let c = counts (r .act) in
+    wrongNode when badNode c (sh .nodes) n
+    ∷ noEntryLeft when noEntry c (sh .entered)
+    ∷ nodeTaken when takenNode c (sh .used) n
+    ∷ followedEmpty when followsEmpty (r .follow) k
+    ∷ followedUnused when followsUnused (sh .used) k
+    ∷ noPlaceLeft when noPlace c (sh .high) (sh .low)
+    ∷ waitNumber (r .wait) when mustStay (r .wait) (sh .flag) (w .node)
+    ∷ []
+
+unfoldable pub refusal : Window → Line → NodeNo → NodeNo → ℕ
+refusal w r k n = firstOf (refusals w r k n)
