@@ -33,7 +33,6 @@ passed false a later h = (refl, h)
 
 -- a line that waits has a number for it
 waited : (wait : Wait) (flag : ℕ) (nd : Node) → cond (mustStay wait flag nd) (waitNumber wait) 0 ≡ 0 → mustStay wait flag nd ≡ false
-unfolding mustStay waitNumber
 waited NoWait flag nd h = refl
 waited ForFlag flag nd h = passed (mustStay ForFlag flag nd) 11 0 h .0
 waited ForUnlock flag nd h = passed (mustStay ForUnlock flag nd) 11 0 h .0
@@ -66,7 +65,6 @@ cleared w r k n c = rw (c .node, c .entry, c .free, c .there, c .used, c .place,
 
 -- the limits that are not met leave room
 room : (c : Count) (w : Window) → noEntry c (w .shared .entered) ≡ false → noPlace c (w .shared .high) (w .shared .low) ≡ false → Room c w
-unfolding noEntry noPlace
 room Nothing w e p = tt
 room Entries w e p = leb-false mostEntries (w .shared .entered) e
 room High w e p = leb-false lastPlace (w .shared .high .0) p

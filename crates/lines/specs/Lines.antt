@@ -77,7 +77,7 @@ unfoldable pub lineAt : ℕ → Line
 lineAt n = cond (ltb n 11) offTable (getD lines (n - 11) offTable)
 
 -- the node that a thread's line follows; 0 where it follows none
-unfoldable pub followedBy : Follow → Thread → NodeNo
+abbrev pub followedBy : Follow → Thread → NodeNo
 followedBy NoNode v = none
 followedBy My v = v .my
 followedBy Prev v = v .prev
@@ -88,7 +88,7 @@ abbrev pub window : Shared → Thread → Node → Window
 window sh v nd = record { shared = sh; thread = v; node = nd }
 
 -- "looks at prev", 16 if 0; "looks at succ", 22 if 0; "if tail = my", 25 if it was
-unfoldable pub goesFirst : Look → Window → Bool
+abbrev pub goesFirst : Look → Window → Bool
 goesFirst Straight w = true
 goesFirst AtPrev w = isNone (w .thread .prev)
 goesFirst AtSucc w = isNone (w .thread .succ)

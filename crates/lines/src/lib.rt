@@ -10,13 +10,13 @@ use lock::Shared;
 use lock::Thread;
 use number::NodeNo;
 
-// What a line does, but for the line number.
+// What a line does, but for the line number; `Stay` is nothing.
 pub enum Act {
+    Stay,
     Choose,
     ClearNext,
     SetLocked,
     Exchange,
-    Stay,
     LowerFlag,
     LinkPrev,
     ReadNext,

@@ -2,3 +2,4 @@
 pub mod Sizes
 pub mod Numbers
 pub mod Refused
+pub mod OneResult

@@ -22,11 +22,11 @@ use Rattle.word.specs.Word.{inUse}
 use Rattle.refusals.specs.declared.Count.{Count}
 use Rattle.refusals.specs.declared.Count.the-variants.{Entries, High, Low, Nothing}
 
-infix 50 _when_
+infix 68 _when_
 -- ---- what is judged
 
 -- what an act counts up: line 11 the entries, line 14 high, line 29 low
-unfoldable pub counts : Act → Count
+abbrev pub counts : Act → Count
 counts Choose = Entries
 counts ClearNext = Nothing
 counts SetLocked = Nothing
@@ -42,28 +42,28 @@ counts TakeMess = Nothing
 counts PassOn = Low
 
 -- 6: "at line 11 the node is not 1 to K; elsewhere it is not 0"
-unfoldable pub badNode : Count → ℕ → NodeNo → Bool
+abbrev pub badNode : Count → ℕ → NodeNo → Bool
 badNode Entries nodes n = isNone n || ltb nodes (n .0)
 badNode Nothing nodes n = not (isNone n)
 badNode High nodes n = not (isNone n)
 badNode Low nodes n = not (isNone n)
 
 -- 7: "line 11 with entered = 1,000,000"
-unfoldable pub noEntry : Count → ℕ → Bool
+abbrev pub noEntry : Count → ℕ → Bool
 noEntry Entries entered = leb mostEntries entered
 noEntry Nothing entered = false
 noEntry High entered = false
 noEntry Low entered = false
 
 -- 8: "line 11 with a node in use"
-unfoldable pub takenNode : Count → ℕ → NodeNo → Bool
+abbrev pub takenNode : Count → ℕ → NodeNo → Bool
 takenNode Entries used n = inUse used n
 takenNode Nothing used n = false
 takenNode High used n = false
 takenNode Low used n = false
 
 -- 9: "a followed node is 0"; succ is followed only where it is not 0
-unfoldable pub followsEmpty : Follow → NodeNo → Bool
+abbrev pub followsEmpty : Follow → NodeNo → Bool
 followsEmpty NoNode k = false
 followsEmpty My k = isNone k
 followsEmpty Prev k = isNone k
@@ -74,21 +74,21 @@ abbrev pub followsUnused : ℕ → NodeNo → Bool
 followsUnused used k = not (isNone k) && not (inUse used k)
 
 -- 11: "line 14 with high, or line 29 with low, at 1,000,001"
-unfoldable pub noPlace : Count → Place → Place → Bool
+abbrev pub noPlace : Count → Place → Place → Bool
 noPlace Nothing high low = false
 noPlace Entries high low = false
 noPlace High high low = leb lastPlace (high .0)
 noPlace Low high low = leb lastPlace (low .0)
 
 -- 12: "the line waits and its condition does not hold"
-unfoldable pub mustStay : Wait → ℕ → Node → Bool
+abbrev pub mustStay : Wait → ℕ → Node → Bool
 mustStay NoWait flag nd = false
 mustStay ForFlag flag nd = not (eqb flag 1)
 mustStay ForUnlock flag nd = not (eqb (nd .locked) 0)
 mustStay ForLink flag nd = isNone (nd .next)
 
 -- the number that a wait is answered with
-unfoldable pub waitNumber : Wait → ℕ
+abbrev pub waitNumber : Wait → ℕ
 waitNumber NoWait = done
 waitNumber ForFlag = mustWait
 waitNumber ForUnlock = mustWait

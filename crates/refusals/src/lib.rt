@@ -34,10 +34,19 @@ pub fn count_of(a: Act) -> Count
     ensures { λ r. ⌜ r ≡ counts a ⌝ }
 {
     match a {
+        Act::Stay => Count::Nothing,
         Act::Choose => Count::Entries,
+        Act::ClearNext => Count::Nothing,
+        Act::SetLocked => Count::Nothing,
         Act::Exchange => Count::High,
+        Act::LowerFlag => Count::Nothing,
+        Act::LinkPrev => Count::Nothing,
+        Act::ReadNext => Count::Nothing,
+        Act::CloseTail => Count::Nothing,
+        Act::SendMess => Count::Nothing,
+        Act::Release => Count::Nothing,
+        Act::TakeMess => Count::Nothing,
         Act::PassOn => Count::Low,
-        _ => Count::Nothing,
     }
 }
 

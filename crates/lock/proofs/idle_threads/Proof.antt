@@ -1,3 +1,13 @@
+-- `lock::idle_threads` meets its contract. The loop's invariant: after i turns the table has i idle threads, and 0 in every place past them.
+-- The measure is what is left of `threads`. Rests on Laws. Assumes nothing.
+use mathlib.Core.Path.{_≡_, ap, _∙_}
+use Prim.Native.Nat.{_-_, _≤_}
+use native.Mathlib.Omega.{arith}
+use lib.ListN.{length}
+use borrow.Author.Needs.{needs}
+use Rattle.lock.specs.Fresh.{idle, idleTo}
+use Rattle.lock.specs.State.{places, zeroThread}
+use Rattle.lock.proofs.Laws.{fill-more}
 use Rattle.lock.proofs.idle_threads.Statement.{statement}
 use Rattle.lock.proofs.idle_threads.Tie as tie
 use Rattle.lock.proofs.idle_threads.Reads as reads
@@ -5,46 +15,43 @@ use Rattle.lock.proofs.idle_threads.Lts as lts
 use Rattle.lock.proofs.zero_thread.Reads as zero-thread-reads
 
 abbrev Inv-loop : tie.InvT-loop
-Inv-loop threads idle all₀ n i₀ all i = ?
+Inv-loop threads idle all₀ n i₀ all i = (i ≤ threads) × (all ≡ idleTo i)
 
 abbrev μ-loop : tie.MeasureT-loop
-μ-loop threads idle all₀ n i₀ all i = ?
+μ-loop threads idle all₀ n i₀ all i = threads - i
 
--- src/lib.rt:186:9
 zero-thread-requires : tie.Need-zero-thread-requires Inv-loop μ-loop
-zero-thread-requires c κs = ?
+zero-thread-requires c κs = search needs
 
--- src/lib.rt:188:20
 zero-thread-requires-2 : tie.Need-zero-thread-requires-2 Inv-loop μ-loop
-zero-thread-requires-2 c κs = ?
+zero-thread-requires-2 c κs = search needs
 
--- src/lib.rt:191:5
 loop-holds : tie.Need-loop-holds Inv-loop μ-loop
-loop-holds c = ?
+unfolding idleTo
+loop-holds c = (search needs, simp (c .zero-thread2 .ensures))
 
--- src/lib.rt:192:9
 mul-all : tie.Need-mul-all Inv-loop μ-loop
-mul-all c = ?
+mul-all c = search needs
 
--- src/lib.rt:192:9
 array-set-from-all : tie.Need-array-set-from-all Inv-loop μ-loop
-array-set-from-all c = ?
+array-set-from-all c = search needs
 
--- src/lib.rt:193:9
 add-i : tie.Need-add-i Inv-loop μ-loop
-add-i c = ?
+add-i c = search needs
 
--- src/lib.rt:191:5
 loop-less : tie.Need-loop-less Inv-loop μ-loop
-loop-less c = ?
+loop-less c = search needs
 
--- src/lib.rt:191:5
 loop-again : tie.Need-loop-again Inv-loop μ-loop
-loop-again c = ?
+unfolding idleTo
+loop-again c =
+    let l = c .before .loop in
+    (omega arith, rw (c .before .before .before .zero-thread .ensures, l .inv .1) (fill-more idle zeroThread places (l .i) (omega arith)))
 
--- src/lib.rt:182:1
 returns : tie.Need-returns Inv-loop μ-loop
-returns c = ?
+returns c =
+    let e : c .before .loop .i ≡ c .before .before .before .before .args .threads = omega arith in
+    c .before .loop .inv .1 ∙ ap idleTo e
 
 pub idle-threads-spec : {M : Type 1} → statement M
 idle-threads-spec =

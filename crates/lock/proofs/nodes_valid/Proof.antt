@@ -1,60 +1,69 @@
+-- `lock::nodes_valid` meets its contract. The loop's invariant: `ok` says whether the nodes from place i on are as they should be.
+-- The measure is i. Rests on Laws. Assumes nothing.
+use mathlib.Core.Path.{_≡_}
+use Prim.Native.Nat.{_-_, _≤_}
+use native.Mathlib.Nat.{sub-zero}
+use native.Mathlib.Omega.{arith}
+use lib.ListN.{drop, length}
+use borrow.Author.Needs.{needs}
+use Rattle.lock.specs.Laws.{length-mapped}
+use Rattle.lock.specs.State.{places, zeroNode}
+use Rattle.lock.specs.Valid.{nodeInRange, nodeIsZero, nodesValid, upTo}
+use Rattle.lock.proofs.Laws.{up-end, up-more}
 use Rattle.lock.proofs.nodes_valid.Statement.{statement}
 use Rattle.lock.proofs.nodes_valid.Tie as tie
-use Rattle.lock.proofs.nodes_valid.Reads as reads
-use Rattle.lock.proofs.nodes_valid.Lts as lts
-use Rattle.lock.proofs.node_in_range.Reads as node-in-range-reads
-use Rattle.lock.proofs.node_is_zero.Reads as node-is-zero-reads
-use Rattle.lock.proofs.pick_up_to.Reads as pick-up-to-reads
 
 abbrev Inv-loop : tie.InvT-loop
-Inv-loop s nodes ok₀ i₀ ok i = ?
+Inv-loop s nodes ok₀ i₀ ok i = (i ≤ places) × (ok ≡ upTo (nodeInRange nodes) nodeIsZero (nodes - i) (drop i (s .node)))
 
 abbrev μ-loop : tie.MeasureT-loop
-μ-loop s nodes ok₀ i₀ ok i = ?
+μ-loop s nodes ok₀ i₀ ok i = i
 
--- src/lib.rt:275:17
 cast-i : tie.Need-cast-i Inv-loop μ-loop
-cast-i c = ?
+cast-i c = search needs
 
--- src/lib.rt:276:5
 loop-holds : tie.Need-loop-holds Inv-loop μ-loop
-loop-holds c = ?
+loop-holds c =
+    let a = c .args in
+    let h : length (a .t1 .node) ≡ places = search length-mapped in
+    (search needs, up-end (nodeInRange (a .t1 .shared .nodes)) nodeIsZero (a .t1 .shared .nodes) (a .t1 .node) places (omega arith))
 
--- src/lib.rt:277:9
 sub-i : tie.Need-sub-i Inv-loop μ-loop
-sub-i c = ?
+sub-i c = search needs
 
--- src/lib.rt:278:17
 mul-v : tie.Need-mul-v Inv-loop μ-loop
-mul-v c = ?
+mul-v c = search needs
 
--- src/lib.rt:278:17
 element-copy-out-v : tie.Need-element-copy-out-v Inv-loop μ-loop
-element-copy-out-v c = ?
+element-copy-out-v c = search needs
 
--- src/lib.rt:279:35
 node-in-range-requires : tie.Need-node-in-range-requires Inv-loop μ-loop
-node-in-range-requires c κs = ?
+node-in-range-requires c κs = search needs
 
--- src/lib.rt:279:60
 node-is-zero-requires : tie.Need-node-is-zero-requires Inv-loop μ-loop
-node-is-zero-requires c κs = ?
+node-is-zero-requires c κs = search needs
 
--- src/lib.rt:279:14
 pick-up-to-requires : tie.Need-pick-up-to-requires Inv-loop μ-loop
-pick-up-to-requires c κs = ?
+pick-up-to-requires c κs = search needs
 
--- src/lib.rt:276:5
 loop-less : tie.Need-loop-less Inv-loop μ-loop
-loop-less c = ?
+loop-less c = search needs
 
--- src/lib.rt:276:5
 loop-again : tie.Need-loop-again Inv-loop μ-loop
-loop-again c = ?
+loop-again c =
+    let l = c .before .before .before .before .before .loop in
+    let a = c .before .before .before .before .before .before .args in
+    let h : length (a .t1 .node) ≡ places = search length-mapped in
+    let more = up-more (nodeInRange (a .t1 .shared .nodes)) nodeIsZero (a .t1 .shared .nodes) (a .t1 .node) zeroNode in
+    (omega arith,
+      rw (c .pick-up-to .ensures, c .before .node-is-zero .ensures, c .before .before .node-in-range .ensures)
+      (more (l .i) (l .ok) (omega arith) (omega arith) (l .inv .1)))
 
--- src/lib.rt:270:1
 returns : tie.Need-returns Inv-loop μ-loop
-returns c = ?
+unfolding nodesValid
+returns c =
+    let e : c .before .loop .i ≡ 0 = omega arith in
+    rw (e, sub-zero) at (c .before .loop .inv .1)
 
 pub nodes-valid-spec : {M : Type 1} → statement M
 nodes-valid-spec =

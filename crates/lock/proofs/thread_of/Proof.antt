@@ -1,45 +1,43 @@
+-- `lock::thread_of` meets its contract: zeros stand at 0 and past the table, and number t stands at place t - 1. Rests on Laws of specs/.
+-- Assumes nothing.
+use mathlib.Core.Path.{_≡_, _∙_}
+use native.Mathlib.Omega.{arith}
+use lib.ListN.{length}
 use borrow.Author.Needs.{needs}
+use Rattle.lock.specs.Laws.{length-mapped, nth-in, nth-none, nth-past}
+use Rattle.lock.specs.State.{places}
 use Rattle.lock.proofs.thread_of.Statement.{statement}
 use Rattle.lock.proofs.thread_of.Tie as tie
-use Rattle.lock.proofs.thread_of.Reads as reads
-use Rattle.lock.proofs.thread_of.Lts as lts
-use Rattle.lock.proofs.zero_thread.Reads as zero-thread-reads
 
--- src/lib.rt:117:9
 zero-thread-requires : tie.Need-zero-thread-requires
 zero-thread-requires c κs = search needs
 
--- src/lib.rt:117:9
 returns : tie.Need-returns
-returns c = search needs
+returns c = c .zero-thread .ensures ∙ nth-none _ _ _ (c .before .if1 .taken)
 
--- src/lib.rt:120:9
 zero-thread-requires-2 : tie.Need-zero-thread-requires-2
 zero-thread-requires-2 c κs = search needs
 
--- src/lib.rt:120:9
 returns-2 : tie.Need-returns-2
-returns-2 c = ?
+returns-2 c =
+    let a = c .before .before .before .args in
+    let h : length (a .t1 .thread) ≡ places = search length-mapped in
+    c .zero-thread2 .ensures ∙ nth-past (a .t1 .thread) (a .t .0) _ (omega arith)
 
--- src/lib.rt:122:14
 sub-i : tie.Need-sub-i
 sub-i c = search needs
 
--- src/lib.rt:122:13
 cast-i : tie.Need-cast-i
 cast-i c = search needs
 
--- src/lib.rt:123:5
 mul-result : tie.Need-mul-result
 mul-result c = search needs
 
--- src/lib.rt:123:5
 element-copy-out-result : tie.Need-element-copy-out-result
 element-copy-out-result c = search needs
 
--- src/lib.rt:112:1
 returns-3 : tie.Need-returns-3
-returns-3 c = ?
+returns-3 c = nth-in _ _ _ (c .before .before .if1 .left)
 
 pub thread-of-spec : {M : Type 1} → statement M
 thread-of-spec =

@@ -1,60 +1,69 @@
+-- `lock::threads_valid` meets its contract. The loop's invariant: `ok` says whether the threads from place i on are as they should be.
+-- The measure is i. Rests on Laws. Assumes nothing.
+use mathlib.Core.Path.{_≡_}
+use Prim.Native.Nat.{_-_, _≤_}
+use native.Mathlib.Nat.{sub-zero}
+use native.Mathlib.Omega.{arith}
+use lib.ListN.{drop, length}
+use borrow.Author.Needs.{needs}
+use Rattle.lock.specs.Laws.{length-mapped}
+use Rattle.lock.specs.State.{places, zeroThread}
+use Rattle.lock.specs.Valid.{threadInRange, threadIsZero, threadsValid, upTo}
+use Rattle.lock.proofs.Laws.{up-end, up-more}
 use Rattle.lock.proofs.threads_valid.Statement.{statement}
 use Rattle.lock.proofs.threads_valid.Tie as tie
-use Rattle.lock.proofs.threads_valid.Reads as reads
-use Rattle.lock.proofs.threads_valid.Lts as lts
-use Rattle.lock.proofs.pick_up_to.Reads as pick-up-to-reads
-use Rattle.lock.proofs.thread_in_range.Reads as thread-in-range-reads
-use Rattle.lock.proofs.thread_is_zero.Reads as thread-is-zero-reads
 
 abbrev Inv-loop : tie.InvT-loop
-Inv-loop s nodes threads ok₀ i₀ ok i = ?
+Inv-loop s nodes threads ok₀ i₀ ok i = (i ≤ places) × (ok ≡ upTo (threadInRange nodes) threadIsZero (threads - i) (drop i (s .thread)))
 
 abbrev μ-loop : tie.MeasureT-loop
-μ-loop s nodes threads ok₀ i₀ ok i = ?
+μ-loop s nodes threads ok₀ i₀ ok i = i
 
--- src/lib.rt:290:17
 cast-i : tie.Need-cast-i Inv-loop μ-loop
-cast-i c = ?
+cast-i c = search needs
 
--- src/lib.rt:291:5
 loop-holds : tie.Need-loop-holds Inv-loop μ-loop
-loop-holds c = ?
+loop-holds c =
+    let a = c .args in
+    let h : length (a .t1 .thread) ≡ places = search length-mapped in
+    (search needs, up-end (threadInRange (a .t1 .shared .nodes)) threadIsZero (a .t1 .shared .threads) (a .t1 .thread) places (omega arith))
 
--- src/lib.rt:292:9
 sub-i : tie.Need-sub-i Inv-loop μ-loop
-sub-i c = ?
+sub-i c = search needs
 
--- src/lib.rt:293:17
 mul-v : tie.Need-mul-v Inv-loop μ-loop
-mul-v c = ?
+mul-v c = search needs
 
--- src/lib.rt:293:17
 element-copy-out-v : tie.Need-element-copy-out-v Inv-loop μ-loop
-element-copy-out-v c = ?
+element-copy-out-v c = search needs
 
--- src/lib.rt:294:37
 thread-in-range-requires : tie.Need-thread-in-range-requires Inv-loop μ-loop
-thread-in-range-requires c κs = ?
+thread-in-range-requires c κs = search needs
 
--- src/lib.rt:294:64
 thread-is-zero-requires : tie.Need-thread-is-zero-requires Inv-loop μ-loop
-thread-is-zero-requires c κs = ?
+thread-is-zero-requires c κs = search needs
 
--- src/lib.rt:294:14
 pick-up-to-requires : tie.Need-pick-up-to-requires Inv-loop μ-loop
-pick-up-to-requires c κs = ?
+pick-up-to-requires c κs = search needs
 
--- src/lib.rt:291:5
 loop-less : tie.Need-loop-less Inv-loop μ-loop
-loop-less c = ?
+loop-less c = search needs
 
--- src/lib.rt:291:5
 loop-again : tie.Need-loop-again Inv-loop μ-loop
-loop-again c = ?
+loop-again c =
+    let l = c .before .before .before .before .before .loop in
+    let a = c .before .before .before .before .before .before .args in
+    let h : length (a .t1 .thread) ≡ places = search length-mapped in
+    let more = up-more (threadInRange (a .t1 .shared .nodes)) threadIsZero (a .t1 .shared .threads) (a .t1 .thread) zeroThread in
+    (omega arith,
+      rw (c .pick-up-to .ensures, c .before .thread-is-zero .ensures, c .before .before .thread-in-range .ensures)
+      (more (l .i) (l .ok) (omega arith) (omega arith) (l .inv .1)))
 
--- src/lib.rt:284:1
 returns : tie.Need-returns Inv-loop μ-loop
-returns c = ?
+unfolding threadsValid
+returns c =
+    let e : c .before .loop .i ≡ 0 = omega arith in
+    rw (e, sub-zero) at (c .before .loop .inv .1)
 
 pub threads-valid-spec : {M : Type 1} → statement M
 threads-valid-spec =

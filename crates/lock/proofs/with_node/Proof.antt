@@ -1,36 +1,46 @@
+-- `lock::with_node` meets its contract: nothing is stored at 0 or past the table, and number k is stored at place k - 1. Rests on Laws of specs/.
+-- Assumes nothing.
+use mathlib.Core.List.{List}
+use mathlib.Core.Path.{_≡_, ap}
+use native.Mathlib.Omega.{arith}
+use lib.ListN.{length}
 use borrow.Author.Needs.{needs}
+use Rattle.lock.specs.Laws.{length-mapped, set-in, set-none, set-past}
+use Rattle.lock.specs.State.{places}
+use Rattle.lock.specs.declared.Node.{Node}
+use Rattle.lock.specs.declared.State.{State}
 use Rattle.lock.proofs.with_node.Statement.{statement}
 use Rattle.lock.proofs.with_node.Tie as tie
-use Rattle.lock.proofs.with_node.Reads as reads
-use Rattle.lock.proofs.with_node.Lts as lts
 
--- src/lib.rt:161:9
+-- the state with another table of nodes
+abbrev withNodes : State → List Node → State
+withNodes s xs = record { shared = s .shared; node = xs; thread = s .thread }
+
 returns : tie.Need-returns
-returns c = ?
+returns c = let a = c .before .args in ap (withNodes (a .s)) (set-none (a .s .node) (a .k .0) (a .v) (c .if1 .taken))
 
--- src/lib.rt:164:9
 returns-2 : tie.Need-returns-2
-returns-2 c = ?
+returns-2 c =
+    let a = c .before .before .args in
+    let h : length (a .s .node) ≡ places = search length-mapped in
+    ap (withNodes (a .s)) (set-past (a .s .node) (a .k .0) (a .v) (omega arith))
 
--- src/lib.rt:166:14
 sub-i : tie.Need-sub-i
 sub-i c = search needs
 
--- src/lib.rt:166:13
 cast-i : tie.Need-cast-i
 cast-i c = search needs
 
--- src/lib.rt:168:5
 mul-v : tie.Need-mul-v
 mul-v c = search needs
 
--- src/lib.rt:168:5
 element-set-from-v : tie.Need-element-set-from-v
 element-set-from-v c = search needs
 
--- src/lib.rt:156:1
 returns-3 : tie.Need-returns-3
-returns-3 c = ?
+returns-3 c =
+    let a = c .before .before .args in
+    ap (withNodes (a .s)) (set-in (a .s .node) (a .k .0) (a .v) (c .before .if1 .left))
 
 pub with-node-spec : {M : Type 1} → statement M
 with-node-spec =

@@ -1,0 +1,50 @@
+-- Several tests as one: all of them hold exactly where each holds. By recursion over the tests; the crates that judge states and bytes share it.
+-- Assumes nothing.
+use mathlib.Core.Bool.{Bool, true, false, _&&_}
+use mathlib.Core.List.{List, [], _∷_}
+use mathlib.Core.Path.{_≡_, refl}
+use Rattle.lock.specs.Valid.{allHold, andAll}
+
+-- ---- two tests
+
+-- Where both hold, the first does.
+pub first-holds : (a b : Bool) → (a && b) ≡ true → a ≡ true
+first-holds true b h = refl
+first-holds false b h = h
+
+-- Where both hold, the second does.
+pub second-holds : (a b : Bool) → (a && b) ≡ true → b ≡ true
+second-holds true b h = h
+second-holds false b h = cc
+
+-- Where each holds, both do.
+pub both-hold : {a b : Bool} → a ≡ true → b ≡ true → (a && b) ≡ true
+both-hold {a} {b} p q = rw (p, q)
+
+-- ---- a list of tests
+
+-- each test of the list holds
+abbrev pub EachHolds : List Bool → Type 0
+EachHolds [] = Unit {0}
+EachHolds (b ∷ bs) = (b ≡ true) × EachHolds bs
+
+-- `andAll` gathers the tests from the left, so both laws carry the test that is gathered so far
+each-after : (a : Bool) (bs : List Bool) → andAll a bs ≡ true → (a ≡ true) × EachHolds bs
+each-after a [] h = (h, tt)
+each-after a (b ∷ bs) h =
+    let r = each-after (a && b) bs h in
+    (first-holds a b (r .0), (second-holds a b (r .0), r .1))
+
+all-after : (a : Bool) (bs : List Bool) → a ≡ true → EachHolds bs → andAll a bs ≡ true
+all-after a [] h k = h
+all-after a (b ∷ bs) h k = all-after (a && b) bs (both-hold h (k .0)) (k .1)
+
+-- Where all of the tests hold, each does.
+pub each-holds : (bs : List Bool) → allHold bs ≡ true → EachHolds bs
+each-holds [] h = tt
+each-holds (b ∷ bs) h = each-after b bs h
+
+-- Where each of the tests holds, all of them do.
+pub all-hold : (bs : List Bool) → EachHolds bs → allHold bs ≡ true
+all-hold [] h = refl
+all-hold (b ∷ bs) h = all-after b bs (h .0) (h .1)
