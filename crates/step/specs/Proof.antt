@@ -1,0 +1,4 @@
+-- The arguments behind the theorems about a step.
+pub mod ByLine
+pub mod Answer
+pub mod Leads
