@@ -1,11 +1,11 @@
--- Laws of what stands at a number, counted from 1. Assumes nothing.
+-- Laws of what stands at a number, counted from 1, from the list library's laws of what stands at a place, counted from 0. Assumes nothing.
 use mathlib.Core.Logic.{_≢_}
-use mathlib.Core.List.{List, map}
+use mathlib.Core.List.{List, _++_, map}
 use mathlib.Core.Path.{_≡_, ap, refl, sym, _∙_}
 use Prim.Native.Nat.{ℕ, zero, suc, _-_, _≤_, _<_}
 use native.Mathlib.Nat.{le-of-suc-le-suc}
 use native.Mathlib.Omega.{arith}
-use lib.ListN.{List·getD-eq-default, getD, length, length-map, length-set, set}
+use lib.ListN.{List·getD-append, List·getD-eq-default, getD, getD-replicate, length, length-map, length-replicate, length-set, replicate, set}
 use lib.Seq.{getD-set-other, getD-set-same, set-getD, set-out, set-set}
 use Rattle.lock.specs.State.{nth, setNth}
 
@@ -58,6 +58,31 @@ module _ {A : Type 0} (xs : List A) where
   pub length-set-nth : (k : ℕ) (v : A) → length (setNth xs k v) ≡ length xs
   length-set-nth zero v = refl
   length-set-nth (suc k) v = length-set xs k v
+
+-- ---- n times v, and then m times d
+module _ {A : Type 0} (v d : A) where
+  -- in a list of d alone stands d everywhere
+  all-same : (m i : ℕ) → getD (replicate m d) i d ≡ d
+  all-same zero i = refl
+  all-same (suc m) zero = refl
+  all-same (suc m) (suc i) = all-same m i
+
+  -- by places, which are counted from 0: d stands from place n on
+  after-front : (n m i : ℕ) → n ≤ i → getD (replicate n v ++ replicate m d) i d ≡ d
+  after-front zero m i h = all-same m i
+  after-front (suc n) m zero h = absurd (omega arith)
+  after-front (suc n) m (suc i) h = after-front n m i (le-of-suc-le-suc h)
+
+  -- v stands at 1 to n
+  pub nth-front : (n m k : ℕ) → 1 ≤ k → k ≤ n → nth (replicate n v ++ replicate m d) k d ≡ v
+  nth-front n m zero a b = absurd (omega arith)
+  nth-front n m (suc k) a b =
+      List·getD-append (replicate n v) (replicate m d) d k (rw (length-replicate n v) b) ∙ getD-replicate n k v d b
+
+  -- d stands at every other number
+  pub nth-after-front : (n m k : ℕ) → n < k → nth (replicate n v ++ replicate m d) k d ≡ d
+  nth-after-front n m zero h = refl
+  nth-after-front n m (suc k) h = after-front n m k (le-of-suc-le-suc h)
 
 -- the length of an array field, as a proof of its function finds it
 pub length-mapped : (X Y : Type 0) (f : X → Y) (l : List X) (n : ℕ) → length (map f l) ≡ n → length l ≡ n

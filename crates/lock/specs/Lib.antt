@@ -1,7 +1,8 @@
--- The lock's state: its parts, the fresh state, and the rule that a state is held to.
+-- The lock's state: its parts, the fresh state, the rule that a state is held to, and the theorems on these.
 pub mod State
 pub mod Laws
 pub mod Fresh
 pub mod Valid
 pub mod Tests
 pub mod Judged
+pub mod Theorems

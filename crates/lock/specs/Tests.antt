@@ -1,5 +1,4 @@
--- Several tests as one: all of them hold exactly where each holds. By recursion over the tests; the crates that judge states and bytes share it.
--- Assumes nothing.
+-- Several tests as one: all of them hold exactly where each holds. By recursion over the tests. Assumes nothing.
 use mathlib.Core.Bool.{Bool, true, false, _&&_}
 use mathlib.Core.List.{List, [], _∷_}
 use mathlib.Core.Path.{_≡_, refl}

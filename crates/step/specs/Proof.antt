@@ -2,3 +2,6 @@
 pub mod ByLine
 pub mod Answer
 pub mod Leads
+pub mod Table
+pub mod FirstThat
+pub mod Judges

@@ -1,19 +1,11 @@
--- `lock::fresh` meets its contract: where the sizes pass the test, the parts of the state are those that the calls ensure; where they do not, it is
--- the refusal. Assumes nothing.
+-- `lock::fresh` meets its contract. Where T and K pass the test, the parts of the state are what the calls ensure; elsewhere it is the refusal.
+-- Rests on Judged, for what `idle_threads` requires. Assumes nothing.
+use mathlib.Core.Path.{sym, _∙_}
 use borrow.Author.Needs.{needs}
-use mathlib.Core.Path.{_≡_}
-use mathlib.Core.Bool.{true}
-use Rattle.lock.specs.Fresh.{fresh, inSize}
-use Rattle.lock.specs.Judged.{in-size-range}
+use Rattle.lock.specs.Fresh.{fresh}
+use Rattle.lock.specs.Judged.{size-rule}
 use Rattle.lock.proofs.fresh.Statement.{statement}
 use Rattle.lock.proofs.fresh.Tie as tie
-use Rattle.lock.proofs.fresh.Reads as reads
-use Rattle.lock.proofs.fresh.Lts as lts
-use Rattle.lock.proofs.fresh_shared.Reads as fresh-shared-reads
-use Rattle.lock.proofs.idle_threads.Reads as idle-threads-reads
-use Rattle.lock.proofs.in_size.Reads as in-size-reads
-use Rattle.lock.proofs.zero_node.Reads as zero-node-reads
-use Rattle.lock.proofs.zero_state.Reads as zero-state-reads
 
 in-size-requires : tie.Need-in-size-requires
 in-size-requires c κs = search needs
@@ -27,14 +19,14 @@ zero-node-requires c κs = search needs
 idle-threads-requires : tie.Need-idle-threads-requires
 idle-threads-requires c κs =
     let a = c .before .before .before .before .args in
-    let fits : inSize (a .threads) (a .nodes) ≡ true = cc in
-    in-size-range (a .threads) (a .nodes) fits .0 .to
+    size-rule (a .threads) (a .nodes) (sym (c .before .before .before .in-size .ensures) ∙ c .before .before .if1 .taken) .0 .to
 
 returns : tie.Need-returns
 unfolding fresh
 returns c =
-    let taken = c .before .before .before .before .in-size .ensures in
-    rw (← taken, c .before .before .before .if1 .taken, c .before .before .fresh-shared .ensures, c .before .zero-node .ensures, c .idle-threads .ensures)
+    let sizes = c .before .before .before .before in
+    rw (← sizes .in-size .ensures, c .before .before .before .if1 .taken)
+    (simp (c .before .before .fresh-shared .ensures, c .before .zero-node .ensures, c .idle-threads .ensures))
 
 zero-state-requires : tie.Need-zero-state-requires
 zero-state-requires c κs = search needs

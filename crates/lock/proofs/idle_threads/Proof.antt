@@ -3,16 +3,12 @@
 use mathlib.Core.Path.{_≡_, ap, _∙_}
 use Prim.Native.Nat.{_-_, _≤_}
 use native.Mathlib.Omega.{arith}
-use lib.ListN.{length}
 use borrow.Author.Needs.{needs}
 use Rattle.lock.specs.Fresh.{idle, idleTo}
 use Rattle.lock.specs.State.{places, zeroThread}
 use Rattle.lock.proofs.Laws.{fill-more}
 use Rattle.lock.proofs.idle_threads.Statement.{statement}
 use Rattle.lock.proofs.idle_threads.Tie as tie
-use Rattle.lock.proofs.idle_threads.Reads as reads
-use Rattle.lock.proofs.idle_threads.Lts as lts
-use Rattle.lock.proofs.zero_thread.Reads as zero-thread-reads
 
 abbrev Inv-loop : tie.InvT-loop
 Inv-loop threads idle all₀ n i₀ all i = (i ≤ threads) × (all ≡ idleTo i)

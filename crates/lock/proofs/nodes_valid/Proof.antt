@@ -1,5 +1,5 @@
 -- `lock::nodes_valid` meets its contract. The loop's invariant: `ok` says whether the nodes from place i on are as they should be.
--- The measure is i. Rests on Laws. Assumes nothing.
+-- The measure is i. (`t1` is the state that is given.) Rests on Laws. Assumes nothing.
 use mathlib.Core.Path.{_≡_}
 use Prim.Native.Nat.{_-_, _≤_}
 use native.Mathlib.Nat.{sub-zero}
@@ -9,7 +9,7 @@ use borrow.Author.Needs.{needs}
 use Rattle.lock.specs.Laws.{length-mapped}
 use Rattle.lock.specs.State.{places, zeroNode}
 use Rattle.lock.specs.Valid.{nodeInRange, nodeIsZero, nodesValid, upTo}
-use Rattle.lock.proofs.Laws.{up-end, up-more}
+use Rattle.lock.proofs.Laws.{judged-none, judge-more}
 use Rattle.lock.proofs.nodes_valid.Statement.{statement}
 use Rattle.lock.proofs.nodes_valid.Tie as tie
 
@@ -24,9 +24,10 @@ cast-i c = search needs
 
 loop-holds : tie.Need-loop-holds Inv-loop μ-loop
 loop-holds c =
-    let a = c .args in
-    let h : length (a .t1 .node) ≡ places = search length-mapped in
-    (search needs, up-end (nodeInRange (a .t1 .shared .nodes)) nodeIsZero (a .t1 .shared .nodes) (a .t1 .node) places (omega arith))
+    let s = c .args .t1 in
+    let K = s .shared .nodes in
+    let h : length (s .node) ≡ places = search length-mapped in
+    (search needs, judged-none (nodeInRange K) nodeIsZero K (s .node) places (omega arith))
 
 sub-i : tie.Need-sub-i Inv-loop μ-loop
 sub-i c = search needs
@@ -52,12 +53,14 @@ loop-less c = search needs
 loop-again : tie.Need-loop-again Inv-loop μ-loop
 loop-again c =
     let l = c .before .before .before .before .before .loop in
-    let a = c .before .before .before .before .before .before .args in
-    let h : length (a .t1 .node) ≡ places = search length-mapped in
-    let more = up-more (nodeInRange (a .t1 .shared .nodes)) nodeIsZero (a .t1 .shared .nodes) (a .t1 .node) zeroNode in
-    (omega arith,
-      rw (c .pick-up-to .ensures, c .before .node-is-zero .ensures, c .before .before .node-in-range .ensures)
-      (more (l .i) (l .ok) (omega arith) (omega arith) (l .inv .1)))
+    let s = c .before .before .before .before .before .before .args .t1 in
+    let K = s .shared .nodes in
+    let h : length (s .node) ≡ places = search length-mapped in
+    let within = c .before .before .node-in-range .ensures in
+    let past = c .before .node-is-zero .ensures in
+    let less : l .i - 1 ≤ places = omega arith in
+    let more = judge-more (nodeInRange K) nodeIsZero K (s .node) zeroNode (l .i) (omega arith) (omega arith) (l .inv .1) in
+    (less, more (c .pick-up-to .ensures) within past)
 
 returns : tie.Need-returns Inv-loop μ-loop
 unfolding nodesValid

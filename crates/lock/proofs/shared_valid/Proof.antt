@@ -14,8 +14,8 @@ none-from-requires c κs = search needs
 returns : tie.Need-returns
 unfolding sharedValid
 returns c =
-    let tests = c .before .before .before .before .before .before .before .before .before in
-    rw (c .none-from .ensures, tests .in-size .ensures)
+    let size = c .before .before .before .before .before .before .before .before .before in
+    rw (c .none-from .ensures, size .in-size .ensures)
 
 pub shared-valid-spec : {M : Type 1} → statement M
 shared-valid-spec = tie.close (tie.spec in-size-requires none-from-requires returns)

@@ -1,5 +1,5 @@
 -- `lock::thread_of` meets its contract: zeros stand at 0 and past the table, and number t stands at place t - 1. Rests on Laws of specs/.
--- Assumes nothing.
+-- (`t1` is the state that is given.) Assumes nothing.
 use mathlib.Core.Path.{_≡_, _∙_}
 use native.Mathlib.Omega.{arith}
 use lib.ListN.{length}

@@ -1,5 +1,5 @@
 -- `lock::threads_valid` meets its contract. The loop's invariant: `ok` says whether the threads from place i on are as they should be.
--- The measure is i. Rests on Laws. Assumes nothing.
+-- The measure is i. (`t1` is the state that is given.) Rests on Laws. Assumes nothing.
 use mathlib.Core.Path.{_≡_}
 use Prim.Native.Nat.{_-_, _≤_}
 use native.Mathlib.Nat.{sub-zero}
@@ -9,7 +9,7 @@ use borrow.Author.Needs.{needs}
 use Rattle.lock.specs.Laws.{length-mapped}
 use Rattle.lock.specs.State.{places, zeroThread}
 use Rattle.lock.specs.Valid.{threadInRange, threadIsZero, threadsValid, upTo}
-use Rattle.lock.proofs.Laws.{up-end, up-more}
+use Rattle.lock.proofs.Laws.{judged-none, judge-more}
 use Rattle.lock.proofs.threads_valid.Statement.{statement}
 use Rattle.lock.proofs.threads_valid.Tie as tie
 
@@ -24,9 +24,11 @@ cast-i c = search needs
 
 loop-holds : tie.Need-loop-holds Inv-loop μ-loop
 loop-holds c =
-    let a = c .args in
-    let h : length (a .t1 .thread) ≡ places = search length-mapped in
-    (search needs, up-end (threadInRange (a .t1 .shared .nodes)) threadIsZero (a .t1 .shared .threads) (a .t1 .thread) places (omega arith))
+    let s = c .args .t1 in
+    let K = s .shared .nodes in
+    let T = s .shared .threads in
+    let h : length (s .thread) ≡ places = search length-mapped in
+    (search needs, judged-none (threadInRange K) threadIsZero T (s .thread) places (omega arith))
 
 sub-i : tie.Need-sub-i Inv-loop μ-loop
 sub-i c = search needs
@@ -52,12 +54,15 @@ loop-less c = search needs
 loop-again : tie.Need-loop-again Inv-loop μ-loop
 loop-again c =
     let l = c .before .before .before .before .before .loop in
-    let a = c .before .before .before .before .before .before .args in
-    let h : length (a .t1 .thread) ≡ places = search length-mapped in
-    let more = up-more (threadInRange (a .t1 .shared .nodes)) threadIsZero (a .t1 .shared .threads) (a .t1 .thread) zeroThread in
-    (omega arith,
-      rw (c .pick-up-to .ensures, c .before .thread-is-zero .ensures, c .before .before .thread-in-range .ensures)
-      (more (l .i) (l .ok) (omega arith) (omega arith) (l .inv .1)))
+    let s = c .before .before .before .before .before .before .args .t1 in
+    let K = s .shared .nodes in
+    let T = s .shared .threads in
+    let h : length (s .thread) ≡ places = search length-mapped in
+    let within = c .before .before .thread-in-range .ensures in
+    let past = c .before .thread-is-zero .ensures in
+    let less : l .i - 1 ≤ places = omega arith in
+    let more = judge-more (threadInRange K) threadIsZero T (s .thread) zeroThread (l .i) (omega arith) (omega arith) (l .inv .1) in
+    (less, more (c .pick-up-to .ensures) within past)
 
 returns : tie.Need-returns Inv-loop μ-loop
 unfolding threadsValid

@@ -139,3 +139,29 @@ module _ (s : State) (t : ThreadNo) (n : NodeNo) (from : 1 ≤ t .0) (to : t .0 
       by-line Leads
       (leads11, (leads12, (leads13, (leads14, (leads15, (leads16, (leads17, (leads18, (leads19, (leads20, (leads21, (leads22, (leads23, (leads24, (leads25,
       (leads26, (leads27, (leads28, (leads29, tt)))))))))))))))))))
+
+  -- the same states the other way round: wherever the figure leads, it is to what the executable definition computes there
+  there : (l : ℕ) → line s t ≡ l → after s t (at l) n ≡ after s t (threadAt s t) n
+  there l e = ap (λ (x : ℕ). after s t (at x) n) (sym e)
+
+  pub ends : (s′ : State) → Figure t n s s′ → s′ ≡ after s t (threadAt s t) n
+  unfolding lineAt perform moved
+  ends s′ (line11 e a b q) = q ∙ sym (simp (nth-set-same (s .thread) (t .0), set-twice (s .thread) (t .0))) ∙ there 11 e
+  ends s′ (line12 e q) = q ∙ there 12 e
+  ends s′ (line13 e q) = q ∙ there 13 e
+  ends s′ (line14 e q) = q ∙ sym (simp (nth-set-same (s .thread) (t .0), set-twice (s .thread) (t .0))) ∙ there 14 e
+  ends s′ (line15 e q) = q ∙ there 15 e
+  ends s′ (line16 e a q) = q ∙ there 16 e
+  ends s′ (line17 e q) = q ∙ there 17 e
+  ends s′ (line18 e q) = q ∙ there 18 e
+  ends s′ (line19 e a q) = q ∙ sym (simp (set-same (s .node))) ∙ there 19 e
+  ends s′ (line20 e q) = q ∙ sym (simp (nth-set-same (s .thread) (t .0), set-twice (s .thread) (t .0), set-same (s .node))) ∙ there 20 e
+  ends s′ (line21 e q) = q ∙ there 21 e
+  ends s′ (line22 e q) = q ∙ sym (closes s t (same (tail s) (my s t))) ∙ there 22 e
+  ends s′ (line23 e a q) = q ∙ sym (simp (set-same (s .node))) ∙ there 23 e
+  ends s′ (line24 e q) = q ∙ sym (simp (nth-set-same (s .thread) (t .0), set-twice (s .thread) (t .0), set-same (s .node))) ∙ there 24 e
+  ends s′ (line25 e q) = q ∙ there 25 e
+  ends s′ (line26 e q) = q ∙ sym (simp (nth-set-same (s .thread) (t .0), set-twice (s .thread) (t .0), set-same (s .node))) ∙ there 26 e
+  ends s′ (line27 e q) = q ∙ there 27 e
+  ends s′ (line28 e q) = q ∙ sym (simp (nth-set-same (s .thread) (t .0), set-twice (s .thread) (t .0))) ∙ there 28 e
+  ends s′ (line29 e q) = q ∙ sym (passes s t (isNone (succ s t))) ∙ there 29 e
