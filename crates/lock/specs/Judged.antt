@@ -15,7 +15,7 @@ use Rattle.number.specs.Sizes.{mostNodes, mostThreads}
 use Rattle.word.specs.Laws.{from-none, none-from}
 use Rattle.lock.specs.Fresh.{inSize}
 use Rattle.lock.specs.State.{nth, places, zeroNode, zeroThread}
-use Rattle.lock.specs.Tests.{EachHolds, all-hold, both-hold, each-holds, first-holds, second-holds}
+use Rattle.number.specs.Tests.{EachHolds, all-hold, both-hold, each-holds, first-holds, second-holds}
 use Rattle.lock.specs.Valid.{Between, NodeRange, SharedRange, ThreadRange, Valid, nodesValid, sharedTests, sharedValid, threadsValid, upTo, valid}
 use Rattle.lock.specs.Valid.{nodeInRange, nodeIsZero, nodeTests, nodeZeros, threadInRange, threadIsZero, threadTests, threadZeros}
 use Rattle.lock.specs.declared.Node.{Node}

@@ -3,6 +3,5 @@ pub mod State
 pub mod Laws
 pub mod Fresh
 pub mod Valid
-pub mod Tests
 pub mod Judged
 pub mod Theorems

@@ -8,6 +8,7 @@ use Prim.Native.Nat.{ℕ, zero, suc, _≤_, _<_, _^_}
 use lib.Dec.{eqb, leb, ltb}
 use lib.ListN.{length}
 use Rattle.number.specs.Sizes.{lastPlace, mostEntries, mostNodes, mostThreads}
+use Rattle.number.specs.Tests.{allHold}
 use Rattle.number.specs.declared.NodeNo.{NodeNo}
 use Rattle.number.specs.declared.ThreadNo.{ThreadNo}
 use Rattle.word.specs.Word.{noneFrom}
@@ -63,15 +64,6 @@ pub record Valid (s : State) : Type 0 where
   pub thread-places : length (s .thread) ≡ places
 
 -- ---- the test
-
--- all of the tests hold
-abbrev pub andAll : Bool → List Bool → Bool
-andAll a [] = a
-andAll a (b ∷ bs) = andAll (a && b) bs
-
-abbrev pub allHold : List Bool → Bool
-allHold [] = true
-allHold (b ∷ bs) = andAll b bs
 
 abbrev pub sharedTests : Shared → List Bool
 sharedTests sh =

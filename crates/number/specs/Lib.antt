@@ -2,4 +2,5 @@
 pub mod Sizes
 pub mod Numbers
 pub mod Refused
+pub mod Tests
 pub mod OneResult

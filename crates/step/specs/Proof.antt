@@ -5,3 +5,6 @@ pub mod Leads
 pub mod Table
 pub mod FirstThat
 pub mod Judges
+pub mod Kept
+pub mod Exactly
+pub mod Against

@@ -2,7 +2,6 @@
 // everyone else. Both answer a number of document 01 and give the state after the event. Rests on all the crates below it.
 ghost use mathlib.Core.Path.{_≡_};
 ghost use Rattle.step.specs.Step.{advance as advanceOf, closed, noThread, step as stepOf};
-
 use lines::Window;
 use lock::State;
 use number::BAD_STATE;

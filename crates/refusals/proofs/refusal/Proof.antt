@@ -90,14 +90,23 @@ returns c =
     let r11 = r10 .before .before in
     let r12 = r11 .before .before in
     let counted = r12 .before .before .before in
-    simp
-    (c .first7 .ensures, c .before .bad-node .ensures,
-    r7 .first6 .ensures, r7 .before .no-entry .ensures,
-    r8 .first5 .ensures, r8 .before .taken .ensures,
-    r9 .first4 .ensures, r9 .before .follows-empty .ensures,
-    r10 .first3 .ensures, r10 .before .follows-unused .ensures,
-    r11 .first2 .ensures, r11 .before .no-place .ensures,
-    r12 .first .ensures, r12 .before .wait-number .ensures, r12 .before .before .must-stay .ensures)
+    simp (
+      c .first7 .ensures,
+      c .before .bad-node .ensures,
+      r7 .first6 .ensures,
+      r7 .before .no-entry .ensures,
+      r8 .first5 .ensures,
+      r8 .before .taken .ensures,
+      r9 .first4 .ensures,
+      r9 .before .follows-empty .ensures,
+      r10 .first3 .ensures,
+      r10 .before .follows-unused .ensures,
+      r11 .first2 .ensures,
+      r11 .before .no-place .ensures,
+      r12 .first .ensures,
+      r12 .before .wait-number .ensures,
+      r12 .before .before .must-stay .ensures,
+    )
     (rw (counted .count-of .ensures))
 
 pub refusal-spec : {M : Type 1} → statement M

@@ -57,9 +57,12 @@ there c = let start = c .before .before .before .before .before in sym (start .b
 -- .. and what was told is what the thread's line is told in this state
 told-is : (c : tie.After-tell) → let a = c .before .before .before .before .before .before .before .before .args in c .tell .result ≡ toldOf (a .s) (threadAt (a .s) (a .t)) (a .n)
 told-is c =
-    c .tell .ensures ∙ simp
-    (c .before .node-of .ensures, c .before .before .followed .ensures, c .before .before .before .line-of .ensures,
-    c .before .before .before .before .thread-of .ensures)
+    c .tell .ensures ∙ simp (
+      c .before .node-of .ensures,
+      c .before .before .followed .ensures,
+      c .before .before .before .line-of .ensures,
+      c .before .before .before .before .thread-of .ensures,
+    )
 
 -- src/lib.rt:66:9
 returns-2 : tie.Need-returns-2
@@ -68,9 +71,15 @@ returns-2 c =
     let found = c .before .before .before in
     let thread = found .before .before .before .before in
     let accepted = eq-eqb _ _ (ap (λ (x : Told). x .answer) (sym (told-is found)) ∙ c .before .before .if2 .taken) in
-    simp
-    (there found, accepted, c .close .ensures, told-is found, found .before .before .followed .ensures, found .before .before .before .line-of .ensures,
-    thread .thread-of .ensures)
+    simp (
+      there found,
+      accepted,
+      c .close .ensures,
+      told-is found,
+      found .before .before .followed .ensures,
+      found .before .before .before .line-of .ensures,
+      thread .thread-of .ensures,
+    )
 
 -- src/lib.rt:41:1
 returns-3 : tie.Need-returns-3

@@ -20,6 +20,7 @@ use Rattle.lock.specs.declared.Thread.{Thread}
 use Rattle.number.specs.Numbers.{isNone}
 use Rattle.number.specs.Refused.{followedEmpty, followedUnused, mustWait, noEntryLeft, noPlaceLeft, nodeTaken, wrongNode}
 use Rattle.number.specs.Sizes.{lastPlace, mostEntries}
+use Rattle.number.specs.Tests.{either-holds, first-holds, neither-holds, second-holds}
 use Rattle.number.specs.declared.NodeNo.{NodeNo}
 use Rattle.number.specs.declared.ThreadNo.{ThreadNo}
 use Rattle.refusals.specs.Refusals.{_when_, badNode, followsEmpty, followsUnused, mustStay, noEntry, noPlace, takenNode, waitNumber}
@@ -33,27 +34,7 @@ use Rattle.step.specs.Proof.FirstThat.{Reflects, never}
 use Rattle.step.specs.Proof.Table.{countsAt, followsAt, waitsAt}
 use Rattle.step.specs.Step.{followed}
 
--- ---- tests joined
-fails-first : (a b : Bool) → (a || b) ≡ false → a ≡ false
-fails-first true b h = h
-fails-first false b h = refl
-
-fails-second : (a b : Bool) → (a || b) ≡ false → b ≡ false
-fails-second true b h = absurd (true≢false h)
-fails-second false b h = h
-
-either : (a b : Bool) → (a || b) ≡ true → (a ≡ true → ⊥) → (b ≡ true → ⊥) → ⊥
-either true b h f g = f refl
-either false b h f g = g h
-
-first-holds : (a b : Bool) → (a && b) ≡ true → a ≡ true
-first-holds true b h = refl
-first-holds false b h = h
-
-second-holds : (a b : Bool) → (a && b) ≡ true → b ≡ true
-second-holds true b h = h
-second-holds false b h = absurd (true≢false (sym h))
-
+-- none of three tests holds
 outside : (a b c : Bool) → T (not (a || (b || c))) → T c → ⊥
 outside false false false h z = z
 
@@ -73,7 +54,7 @@ module _ (s : State) (t : ThreadNo) (n : NodeNo) where
   elsewhere : line s t ≢ 11 → Reflects (wrongNode when not (isNone n)) Wrong
   elsewhere off = record {
     holds = λ e. (inr (off, eqb-false _ _ (not-true _ e)), refl);
-    fails = λ e. ⊎-elim (λ h. off (h .0)) (λ h. h .1 (eqb-true _ _ (not-false _ e)))
+    fails = λ e. ⊎-elim (λ h. off (h .0)) (λ h. h .1 (eqb-true _ _ (not-false _ e)));
   }
 
   pub judges6 : (c : Count) → T (countsAt c (line s t)) → Reflects (wrongNode when badNode c K n) Wrong
@@ -81,11 +62,11 @@ module _ (s : State) (t : ThreadNo) (n : NodeNo) where
       let e11 = eqb→eq (line s t) 11 h in
       record {
         holds = λ e.
-          (inl (e11, λ b. either (isNone n) (ltb K (n .0)) e (λ z. omega (arith, eqb-true (n .0) 0 z)) (λ z. omega (arith, ltb-true K (n .0) z))), refl);
+            (inl (e11, λ b. either-holds (isNone n) (ltb K (n .0)) e (λ z. omega (arith, eqb-true (n .0) 0 z)) (λ z. omega (arith, ltb-true K (n .0) z))), refl);
         fails = λ e.
-          let some : n .0 ≢ 0 = eqb-false _ _ (fails-first (isNone n) _ e) in
-          let within : n .0 ≤ K = ltb-false _ _ (fails-second (isNone n) _ e) in
-          ⊎-elim (λ h. h .1 (record { from = omega arith; to = within })) (λ h. h .0 e11)
+            let some : n .0 ≢ 0 = eqb-false _ _ (neither-holds (isNone n) _ e .0) in
+            let within : n .0 ≤ K = ltb-false _ _ (neither-holds (isNone n) _ e .1) in
+            ⊎-elim (λ h. h .1 (record { from = omega arith; to = within })) (λ h. h .0 e11);
       }
   judges6 Nothing h = elsewhere (λ e. at (countsAt Nothing) h e)
   judges6 High h = elsewhere (λ e. at (countsAt High) h e)
@@ -97,7 +78,7 @@ module _ (s : State) (t : ThreadNo) (n : NodeNo) where
   judges7 most Entries h =
       record {
         holds = λ e. ((eqb→eq (line s t) 11 h, omega (arith, leb-true mostEntries (entered s) e)), refl);
-        fails = λ e a. omega (arith, leb-false mostEntries (entered s) e)
+        fails = λ e a. omega (arith, leb-false mostEntries (entered s) e);
       }
   judges7 most Nothing h = never _ _ (λ a. at (countsAt Nothing) h (a .0))
   judges7 most High h = never _ _ (λ a. at (countsAt High) h (a .0))
@@ -108,7 +89,7 @@ module _ (s : State) (t : ThreadNo) (n : NodeNo) where
   judges8 Entries h =
       record {
         holds = λ e. ((eqb→eq (line s t) 11 h, e), refl);
-        fails = λ e a. true≢false (sym (a .1) ∙ e)
+        fails = λ e a. true≢false (sym (a .1) ∙ e);
       }
   judges8 Nothing h = never _ _ (λ a. at (countsAt Nothing) h (a .0))
   judges8 High h = never _ _ (λ a. at (countsAt High) h (a .0))
@@ -127,12 +108,12 @@ module _ (s : State) (t : ThreadNo) (n : NodeNo) where
   judges11 p q High h =
       record {
         holds = λ e. (inl (eqb→eq (line s t) 14 h, omega (arith, leb-true lastPlace (high s .0) e)), refl);
-        fails = λ e. ⊎-elim (λ a. omega (arith, leb-false lastPlace (high s .0) e)) (λ a. at (countsAt High) h (a .0))
+        fails = λ e. ⊎-elim (λ a. omega (arith, leb-false lastPlace (high s .0) e)) (λ a. at (countsAt High) h (a .0));
       }
   judges11 p q Low h =
       record {
         holds = λ e. (inr (eqb→eq (line s t) 29 h, omega (arith, leb-true lastPlace (low s .0) e)), refl);
-        fails = λ e. ⊎-elim (λ a. at (countsAt Low) h (a .0)) (λ a. omega (arith, leb-false lastPlace (low s .0) e))
+        fails = λ e. ⊎-elim (λ a. at (countsAt Low) h (a .0)) (λ a. omega (arith, leb-false lastPlace (low s .0) e));
       }
 
 -- ---- 9 and 10: by what the line follows
@@ -180,7 +161,7 @@ module _ (v : Thread) where
       → Reflects (followedEmpty when followsEmpty f (followedBy f v)) Empty
   empty f h d q = record {
     holds = λ e. ((followedBy f v, d, eqb-true _ _ (sym q ∙ e)), refl);
-    fails = λ e a. some f h e (a .0) (a .1) (a .2)
+    fails = λ e a. some f h e (a .0) (a .1) (a .2);
   }
 
   pub judges9 : (f : Follow) → T (followsAt f (v .line)) → Reflects (followedEmpty when followsEmpty f (followedBy f v)) Empty
@@ -194,14 +175,14 @@ module _ (v : Thread) where
       → Reflects (followedUnused when followsUnused used (followedBy f v)) (followedUnused given-when ((k : NodeNo) × Follows v k × (inUse used k ≡ false)))
   judges10 used f h z = record {
     holds = λ e.
-      let k = followedBy f v in
-      let there : k .0 ≢ 0 = eqb-false _ _ (not-true _ (first-holds (not (isNone k)) _ e)) in
-      ((k, follows f h there, not-true _ (second-holds (not (isNone k)) _ e)), refl);
+        let k = followedBy f v in
+        let there : k .0 ≢ 0 = eqb-false _ _ (not-true _ (first-holds (not (isNone k)) _ e)) in
+        ((k, follows f h there, not-true _ (second-holds (not (isNone k)) _ e)), refl);
     fails = λ e a.
-      let same = only f h (a .0) (a .1) in
-      let there : isNone (followedBy f v) ≡ false = ne-eqb _ _ (λ q. some f h z (a .0) (a .1) (ap (λ (x : NodeNo). x .0) same ∙ q)) in
-      let unused : inUse used (followedBy f v) ≡ false = ap (inUse used) (sym same) ∙ a .2 in
-      true≢false (sym (rw (there, unused)) ∙ e)
+        let same = only f h (a .0) (a .1) in
+        let there : isNone (followedBy f v) ≡ false = ne-eqb _ _ (λ q. some f h z (a .0) (a .1) (ap (λ (x : NodeNo). x .0) same ∙ q)) in
+        let unused : inUse used (followedBy f v) ≡ false = ap (inUse used) (sym same) ∙ a .2 in
+        true≢false (sym (rw (there, unused)) ∙ e);
   }
 
 -- ---- 12: by what the line waits for
@@ -228,17 +209,17 @@ module _ (s : State) (t : ThreadNo) where
   judges12 NoWait h = never _ Wait12 (λ a. waiting a (λ e z. at (waitsAt NoWait) h e) (λ e z. at (waitsAt NoWait) h e) (λ e z. at (waitsAt NoWait) h e))
   judges12 ForFlag h = record {
     holds = λ e. (at16 (eqb→eq (line s t) 16 h) (eqb-false _ _ (not-true _ e)), refl);
-    fails = λ e a. waiting a (λ q z. z (eqb-true _ _ (not-false _ e))) (λ q z. at (waitsAt ForFlag) h q) (λ q z. at (waitsAt ForFlag) h q)
+    fails = λ e a. waiting a (λ q z. z (eqb-true _ _ (not-false _ e))) (λ q z. at (waitsAt ForFlag) h q) (λ q z. at (waitsAt ForFlag) h q);
   }
   judges12 ForUnlock h =
       let e19 = eqb→eq (line s t) 19 h in
       rw (my-at-19 e19) (record {
         holds = λ e. (at19 e19 (eqb-false _ _ (not-true _ e)), refl);
-        fails = λ e a. waiting a (λ q z. at (waitsAt ForUnlock) h q) (λ q z. z (eqb-true _ _ (not-false _ e))) (λ q z. at (waitsAt ForUnlock) h q)
+        fails = λ e a. waiting a (λ q z. at (waitsAt ForUnlock) h q) (λ q z. z (eqb-true _ _ (not-false _ e))) (λ q z. at (waitsAt ForUnlock) h q);
       })
   judges12 ForLink h =
       let e23 = eqb→eq (line s t) 23 h in
       rw (my-at-23 e23) (record {
         holds = λ e. (at23 e23 (eqb-true _ _ e), refl);
-        fails = λ e a. waiting a (λ q z. at (waitsAt ForLink) h q) (λ q z. at (waitsAt ForLink) h q) (λ q z. eqb-false _ _ e z)
+        fails = λ e a. waiting a (λ q z. at (waitsAt ForLink) h q) (λ q z. at (waitsAt ForLink) h q) (λ q z. eqb-false _ _ e z);
       })

@@ -19,25 +19,21 @@ use Rattle.lock.specs.State.{_⟨flag≔_⟩, _⟨line≔_⟩, _⟨locked≔_�
 use Rattle.lock.specs.declared.State.{State}
 use Rattle.lock.specs.declared.Thread.{Thread}
 use Rattle.number.specs.Numbers.{behind, isNone, none, same}
+use Rattle.number.specs.Tests.{neither-holds}
 use Rattle.number.specs.declared.NodeNo.{NodeNo}
 use Rattle.number.specs.declared.ThreadNo.{ThreadNo}
 use Rattle.step.specs.Proof.ByLine.{by-line}
 use Rattle.step.specs.Step.{after, closed, followed, windowOf}
 
--- the first of two tests that both fail
-neither : (a b : Bool) → (a || b) ≡ false → a ≡ false
-neither true b h = h
-neither false b h = refl
-
 module _ (s : State) (t : ThreadNo) where
   -- 29, by whether succ is 0
   pub passes : (b : Bool)
       → let sh = s .shared ⟨low≔ behind (low s) ⟩ in
-        let v = threadAt s t ⟨line≔ 29 ⟩ in
-        let nd = nodeAt s (succ s t) in
-        let w = cond b (window (sh ⟨flag≔ 1 ⟩) v nd) (window sh v (nd ⟨locked≔ 0 ⟩)) in
-        closed s t (succ s t) (window (w .shared) (w .thread ⟨line≔ 11 ⟩) (w .node))
-        ≡ cond b (s ⟪flag≔ 1 ⟫) (s ⟪locked succ s t ≔ 0 ⟫) ⟪low≔ behind (low s) ⟫ ⟪line t ≔ 11 ⟫
+      let v = threadAt s t ⟨line≔ 29 ⟩ in
+      let nd = nodeAt s (succ s t) in
+      let w = cond b (window (sh ⟨flag≔ 1 ⟩) v nd) (window sh v (nd ⟨locked≔ 0 ⟩)) in
+      closed s t (succ s t) (window (w .shared) (w .thread ⟨line≔ 11 ⟩) (w .node))
+      ≡ cond b (s ⟪flag≔ 1 ⟫) (s ⟪locked succ s t ≔ 0 ⟫) ⟪low≔ behind (low s) ⟫ ⟪line t ≔ 11 ⟫
   passes true = simp (set-same (s .node))
   passes false = refl
 
@@ -60,7 +56,7 @@ module _ (s : State) (t : ThreadNo) (n : NodeNo) (from : 1 ≤ t .0) (to : t .0 
 
   leads11 : Leads 11
   unfolding lineAt perform moved
-  leads11 e c = line11 e (eqb-false _ _ (neither _ _ (c .node))) (c .free) (simp (nth-set-same (s .thread) (t .0), set-twice (s .thread) (t .0)))
+  leads11 e c = line11 e (eqb-false _ _ (neither-holds _ _ (c .node) .0)) (c .free) (simp (nth-set-same (s .thread) (t .0), set-twice (s .thread) (t .0)))
 
   leads12 : Leads 12
   unfolding lineAt perform moved
@@ -136,9 +132,52 @@ module _ (s : State) (t : ThreadNo) (n : NodeNo) (from : 1 ≤ t .0) (to : t .0 
 
   pub leads : (l : ℕ) → 11 ≤ l → l ≤ 29 → Leads l
   leads =
-      by-line Leads
-      (leads11, (leads12, (leads13, (leads14, (leads15, (leads16, (leads17, (leads18, (leads19, (leads20, (leads21, (leads22, (leads23, (leads24, (leads25,
-      (leads26, (leads27, (leads28, (leads29, tt)))))))))))))))))))
+      by-line Leads (
+        leads11,
+        (
+          leads12,
+          (
+            leads13,
+            (
+              leads14,
+              (
+                leads15,
+                (
+                  leads16,
+                  (
+                    leads17,
+                    (
+                      leads18,
+                      (
+                        leads19,
+                        (
+                          leads20,
+                          (
+                            leads21,
+                            (
+                              leads22,
+                              (
+                                leads23,
+                                (
+                                  leads24,
+                                  (
+                                    leads25,
+                                    (leads26, (leads27, (leads28, (leads29, tt)))),
+                                  ),
+                                ),
+                              ),
+                            ),
+                          ),
+                        ),
+                      ),
+                    ),
+                  ),
+                ),
+              ),
+            ),
+          ),
+        ),
+      )
 
   -- the same states the other way round: wherever the figure leads, it is to what the executable definition computes there
   there : (l : ℕ) → line s t ≡ l → after s t (at l) n ≡ after s t (threadAt s t) n

@@ -2,20 +2,20 @@
 -- each line. Assumes nothing.
 use mathlib.Core.Bool.{Bool, true, not, _&&_}
 use mathlib.Core.List.{List, [], _∷_}
-use mathlib.Core.Logic.{_≢_}
-use mathlib.Core.Path.{_≡_, refl, subst, sym}
+use mathlib.Core.Path.{_≡_, subst}
 use Prim.Native.Nat.{ℕ, zero, suc, _+_, _-_, _≤_, _<_}
 use native.Mathlib.Nat.{le-of-suc-le-suc}
 use native.Mathlib.Omega.{arith}
-use lib.Dec.{T, eqb, eqb→eq}
+use lib.Dec.{T, eqb, leb, leb→le}
 use lib.ListN.{getD, length}
-use borrow.Author.Tests.{eq-eqb, eqb-false, eqb-true, le-ltb, not-true}
+use borrow.Author.Tests.{le-ltb}
 use Rattle.lines.specs.Lines.{lineAt, lines, offTable}
 use Rattle.lines.specs.declared.Follow.{Follow}
 use Rattle.lines.specs.declared.Follow.the-variants.{My, NoNode, Prev, Succ}
 use Rattle.lines.specs.declared.Line.{Line}
 use Rattle.lines.specs.declared.Wait.{Wait}
 use Rattle.lines.specs.declared.Wait.the-variants.{ForFlag, ForLink, ForUnlock, NoWait}
+use Rattle.lock.specs.Valid.{Between}
 use Rattle.refusals.specs.Refusals.{counts}
 use Rattle.refusals.specs.declared.Count.{Count}
 use Rattle.refusals.specs.declared.Count.the-variants.{Entries, High, Low, Nothing}
@@ -48,28 +48,39 @@ waitsAt NoWait l = not (among l (16 ∷ 19 ∷ 23 ∷ []))
 abbrev agrees : ℕ → Line → Bool
 agrees l r = countsAt (counts (r .act)) l && followsAt (r .follow) l && waitsAt (r .wait) l
 
-abbrev allFrom : ℕ → List Line → Bool
-allFrom l [] = true
-allFrom l (r ∷ rs) = agrees l r && allFrom (suc l) rs
+-- each line is followed by lines of the table
+abbrev staysInside : ℕ → Line → Bool
+staysInside l r = leb 11 (r .goes) && leb (r .goes) 29 && leb 11 (r .other) && leb (r .other) 29
 
-all-agree : T (allFrom 11 lines)
+-- a test of each row and its line number, over rows from line l on
+abbrev allFrom : (ℕ → Line → Bool) → ℕ → List Line → Bool
+allFrom test l [] = true
+allFrom test l (r ∷ rs) = test l r && allFrom test (suc l) rs
+
+all-agree : T (allFrom agrees 11 lines)
 all-agree = tt
+
+all-inside : T (allFrom staysInside 11 lines)
+all-inside = tt
+
+-- ---- what the test says of each line
 
 both : (a b : Bool) → T (a && b) → T a × T b
 both true b h = (tt, h)
 
-agree-at : (l : ℕ) (rs : List Line) → T (allFrom l rs) → (j : ℕ) → j < length rs → T (agrees (l + j) (getD rs j offTable))
-agree-at l [] h j p = absurd (omega arith)
-agree-at l (r ∷ rs) h zero p = let e : l + 0 ≡ l = omega arith in rw e (both (agrees l r) _ h .0)
-agree-at l (r ∷ rs) h (suc j) p =
-    let e : l + suc j ≡ suc l + j = omega arith in
-    rw e (agree-at (suc l) rs (both (agrees l r) _ h .1) j (le-of-suc-le-suc p))
+module _ (test : ℕ → Line → Bool) where
+  row-at : (l : ℕ) (rs : List Line) → T (allFrom test l rs) → (j : ℕ) → j < length rs → T (test (l + j) (getD rs j offTable))
+  row-at l [] h j p = absurd (omega arith)
+  row-at l (r ∷ rs) h zero p = let e : l + 0 ≡ l = omega arith in rw e (both (test l r) _ h .0)
+  row-at l (r ∷ rs) h (suc j) p =
+      let e : l + suc j ≡ suc l + j = omega arith in
+      rw e (row-at (suc l) rs (both (test l r) _ h .1) j (le-of-suc-le-suc p))
 
-agree : (l : ℕ) → 11 ≤ l → l ≤ 29 → T (agrees l (lineAt l))
-unfolding lineAt
-agree l a b =
-    let e : 11 + (l - 11) ≡ l = omega arith in
-    rw (le-ltb l 11 a) (subst (λ (x : ℕ). T (agrees x (getD lines (l - 11) offTable))) e (agree-at 11 lines all-agree (l - 11) (omega arith)))
+  of-line : T (allFrom test 11 lines) → (l : ℕ) → 11 ≤ l → l ≤ 29 → T (test l (lineAt l))
+  unfolding lineAt
+  of-line all l a b =
+      let e : 11 + (l - 11) ≡ l = omega arith in
+      rw (le-ltb l 11 a) (subst (λ (x : ℕ). T (test x (getD lines (l - 11) offTable))) e (row-at 11 lines all (l - 11) (omega arith)))
 
 three : (a b c : Bool) → T (a && b && c) → T a × T b × T c
 three true true c h = (tt, tt, h)
@@ -79,4 +90,14 @@ pub row-agrees : (l : ℕ) → 11 ≤ l → l ≤ 29
     → T (countsAt (counts (lineAt l .act)) l) × T (followsAt (lineAt l .follow) l) × T (waitsAt (lineAt l .wait) l)
 row-agrees l a b =
     let r = lineAt l in
-    three (countsAt (counts (r .act)) l) (followsAt (r .follow) l) (waitsAt (r .wait) l) (agree l a b)
+    three (countsAt (counts (r .act)) l) (followsAt (r .follow) l) (waitsAt (r .wait) l) (of-line agrees all-agree l a b)
+
+four : (a b c d : Bool) → T (a && b && c && d) → T a × T b × T c × T d
+four true true true d h = (tt, tt, tt, h)
+
+-- where line l goes on, it is to a line of the table
+pub row-inside : (l : ℕ) → 11 ≤ l → l ≤ 29 → Between 11 (lineAt l .goes) 29 × Between 11 (lineAt l .other) 29
+row-inside l a b =
+    let r = lineAt l in
+    let h = four (leb 11 (r .goes)) (leb (r .goes) 29) (leb 11 (r .other)) (leb (r .other) 29) (of-line staysInside all-inside l a b) in
+    (record { from = leb→le _ _ (h .0); to = leb→le _ _ (h .1) }, record { from = leb→le _ _ (h .2); to = leb→le _ _ (h .3) })

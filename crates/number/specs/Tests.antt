@@ -1,8 +1,8 @@
--- Several tests as one: all of them hold exactly where each holds. By recursion over the tests. Assumes nothing.
-use mathlib.Core.Bool.{Bool, true, false, _&&_}
+-- Several tests as one, and what follows for each: a rule of document 01 is a list of tests, all of which hold. By cases and by recursion over
+-- the tests. Assumes nothing.
+use mathlib.Core.Bool.{Bool, false, true, _&&_, _||_}
 use mathlib.Core.List.{List, [], _∷_}
 use mathlib.Core.Path.{_≡_, refl}
-use Rattle.lock.specs.Valid.{allHold, andAll}
 
 -- ---- two tests
 
@@ -20,7 +20,26 @@ second-holds false b h = cc
 pub both-hold : {a b : Bool} → a ≡ true → b ≡ true → (a && b) ≡ true
 both-hold {a} {b} p q = rw (p, q)
 
+-- Where neither of two tests holds, both fail.
+pub neither-holds : (a b : Bool) → (a || b) ≡ false → (a ≡ false) × (b ≡ false)
+neither-holds true b h = (h, cc)
+neither-holds false b h = (refl, h)
+
+-- Where one of two tests holds and neither can, nothing is so.
+pub either-holds : (a b : Bool) → (a || b) ≡ true → (a ≡ true → ⊥) → (b ≡ true → ⊥) → ⊥
+either-holds true b h f g = f refl
+either-holds false b h f g = g h
+
 -- ---- a list of tests
+
+-- all of the tests hold: a && b && ..
+abbrev pub andAll : Bool → List Bool → Bool
+andAll a [] = a
+andAll a (b ∷ bs) = andAll (a && b) bs
+
+abbrev pub allHold : List Bool → Bool
+allHold [] = true
+allHold (b ∷ bs) = andAll b bs
 
 -- each test of the list holds
 abbrev pub EachHolds : List Bool → Type 0

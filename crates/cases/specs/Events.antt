@@ -1,0 +1,50 @@
+-- Events one after the other, under any tool that takes the step's place: the state reached, the answers, and the lines executed. The useless tools
+-- are run by these definitions too, so a tool is a parameter throughout. Assumes nothing.
+use mathlib.Core.Bool.{cond}
+use mathlib.Core.List.{List, [], _∷_}
+use Prim.Native.Nat.{ℕ}
+use lib.Dec.{eqb}
+use lib.ListN.{replicate}
+use Rattle.lock.specs.State.{threadAt}
+use Rattle.lock.specs.declared.State.{State}
+use Rattle.number.specs.Numbers.{node, thread}
+use Rattle.number.specs.Refused.{done}
+use Rattle.number.specs.declared.NodeNo.{NodeNo}
+use Rattle.number.specs.declared.ThreadNo.{ThreadNo}
+use Rattle.step.specs.declared.Stepped.{Stepped}
+
+infix 68 _times_
+-- ---- events
+
+-- "One event executes one line of one thread."
+pub record Event : Type 0 where
+  pub thread : ThreadNo
+  pub node : NodeNo
+
+-- document 01's (t,n)
+abbrev pub event : ℕ → ℕ → Event
+event t n = record { thread = thread t; node = node n }
+
+-- the same event so many times
+abbrev pub _times_ : ℕ → Event → List Event
+many times e = replicate many e
+
+-- ---- a tool over events
+module _ (tool : State → ThreadNo → NodeNo → Stepped) where
+  -- the state after the events
+  unfoldable pub after : State → List Event → State
+  after s [] = s
+  after s (e ∷ es) = after (tool s (e .thread) (e .node) .state) es
+
+  -- the answer to each event
+  unfoldable pub answers : State → List Event → List ℕ
+  answers s [] = []
+  answers s (e ∷ es) = let r = tool s (e .thread) (e .node) in r .answer ∷ answers (r .state) es
+
+  -- the lines that the events execute: a refused event executes none
+  unfoldable pub linesDone : State → List Event → List ℕ
+  linesDone s [] = []
+  linesDone s (e ∷ es) =
+      let r = tool s (e .thread) (e .node) in
+      let later = linesDone (r .state) es in
+      cond (eqb (r .answer) done) (threadAt s (e .thread) .line ∷ later) later

@@ -1,0 +1,82 @@
+-- The answer of a step is the number of the first condition that applies: each test of the step says what its condition says (Judges), and the
+-- answer is that of the first test that holds (Answer). Assumes nothing.
+use mathlib.Core.Bool.{Bool, false, not, true, true≢false, _||_}
+use mathlib.Core.List.{List, [], _∷_}
+use mathlib.Core.Logic.{_≢_, _⊎_, _↔_, inl, inr}
+use mathlib.Core.Path.{_≡_, refl, subst, sym, _∙_}
+use Prim.Native.Nat.{ℕ, _<_, _≤_}
+use native.Mathlib.Omega.{arith}
+use lib.Dec.{eqb, ltb}
+use lib.ListN.{drop, length}
+use borrow.Author.Tests.{eqb-true, ltb-true, not-false, not-true}
+use Rattle.lines.specs.Lines.{lineAt}
+use Rattle.lock.specs.Judged.{rule-valid, valid-rule}
+use Rattle.lock.specs.State.{places, threadAt}
+use Rattle.lock.specs.Valid.{Between, Valid, valid}
+use Rattle.lock.specs.declared.State.{State}
+use Rattle.lock.specs.declared.Thread.{Thread}
+use Rattle.number.specs.Refused.{badState, noSuchThread}
+use Rattle.number.specs.Tests.{either-holds}
+use Rattle.number.specs.declared.NodeNo.{NodeNo}
+use Rattle.number.specs.declared.ThreadNo.{ThreadNo}
+use Rattle.refusals.specs.Refusals.{_when_, counts, refusals}
+use Rattle.step.specs.Conditions.{Condition, First, _given-when_, conditions}
+use Rattle.step.specs.Proof.Answer.{answer-first, in-table, tests}
+use Rattle.step.specs.Proof.FirstThat.{AllReflect, Reflects, first-of, first-one}
+use Rattle.step.specs.Proof.Judges.{judges10, judges11, judges12, judges6, judges7, judges8, judges9}
+use Rattle.step.specs.Proof.Table.{row-agrees}
+use Rattle.step.specs.Step.{followed, noThread, step, windowOf}
+
+module _ (s : State) (t : ThreadNo) (n : NodeNo) (nodes32 : length (s .node) ≡ places) (threads32 : length (s .thread) ≡ places) where
+  abbrev v : Thread
+  v = threadAt s t
+
+  judges1 : Reflects (badState when not (valid s)) (badState given-when (Valid s → ⊥))
+  judges1 = record {
+    holds = λ e. ((λ rule. true≢false (sym (rule-valid s rule) ∙ not-true _ e)), refl);
+    fails = λ e broken. broken (valid-rule s nodes32 threads32 (not-false _ e));
+  }
+
+  judges5 : Reflects (noSuchThread when noThread (s .shared .threads) t) (noSuchThread given-when (Between 1 (t .0) (s .shared .threads) → ⊥))
+  judges5 = record {
+    holds = λ e. (
+      (λ b. either-holds (eqb (t .0) 0) (ltb (s .shared .threads) (t .0)) e (λ z. omega (arith, eqb-true (t .0) 0 z))
+          (λ z. omega (arith, ltb-true (s .shared .threads) (t .0) z))),
+      refl,
+    );
+    fails = λ e outside. outside (in-table (s .shared .threads) t e);
+  }
+
+  -- 6 to 12, in a valid state, of a thread 1 to T
+  judges-line :
+      Valid s → Between 1 (t .0) (s .shared .threads) → AllReflect (refusals (windowOf s v) (lineAt (v .line)) (followed v) n) (drop 2 (conditions s t n))
+  judges-line rule b =
+      let r = lineAt (v .line) in
+      let l = rule .thread t (b .from) (b .to) .line in
+      let a = row-agrees (v .line) (l .from) (l .to) in
+      let c = counts (r .act) in (
+        judges6 s t n c (a .0),
+        λ j6. (
+          judges7 s t n (rule .shared .entered) c (a .0),
+          λ j7. (
+            judges8 s t n c (a .0),
+            λ j8. (
+              judges9 v (r .follow) (a .1),
+              λ j9. (
+                judges10 v (s .shared .used) (r .follow) (a .1) j9,
+                λ j10.
+                    (judges11 s t n (rule .shared .high .to) (rule .shared .low .to) c (a .0), λ j11. (judges12 s t (r .wait) (a .2), λ j12. tt)),
+              ),
+            ),
+          ),
+        ),
+      )
+
+  judges : AllReflect (tests s t n) (conditions s t n)
+  judges =
+      (judges1, λ j1. (judges5, λ j5. judges-line (valid-rule s nodes32 threads32 (not-false _ j1)) (in-table (s .shared .threads) t j5)))
+
+  pub exactly-when : (m : ℕ) → (step s t n .answer ≡ m) ↔ First (conditions s t n) m
+  exactly-when m =
+      let f = first-of (tests s t n) (conditions s t n) judges in
+      ((λ e. subst (First (conditions s t n)) (sym (answer-first s t n) ∙ e) f), λ g. answer-first s t n ∙ first-one (conditions s t n) _ m f g)

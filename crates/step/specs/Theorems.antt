@@ -1,0 +1,49 @@
+-- What a step promises: the theorems that a buyer needs, each under a plain sentence. The arguments are in Proof. Assumes nothing.
+use mathlib.Core.Logic.{_≢_, _↔_}
+use mathlib.Core.Path.{_≡_}
+use Prim.Native.Nat.{ℕ}
+use lib.ListN.{length}
+use Rattle.lock.specs.State.{places}
+use Rattle.lock.specs.Valid.{Valid}
+use Rattle.lock.specs.declared.State.{State}
+use Rattle.number.specs.OneResult.{only}
+use Rattle.number.specs.Refused.{done}
+use Rattle.number.specs.declared.NodeNo.{NodeNo}
+use Rattle.number.specs.declared.ThreadNo.{ThreadNo}
+use Rattle.step.specs.Conditions.{First, conditions}
+use Rattle.step.specs.Proof.Answer
+use Rattle.step.specs.Proof.Against
+use Rattle.step.specs.Proof.Exactly
+use Rattle.step.specs.Step.{step}
+use Rattle.step.specs.declared.Stepped.{Stepped}
+pub use Rattle.step.specs.Demands.{Complete, Possible, Sound, Tool}
+
+-- From a valid state, an accepted step is a step of Figure 1 by that thread and node.
+pub sound : Sound step
+sound = Against.sound
+
+-- From a valid state, each step that Figure 1 allows and that is possible is accepted, and leads where the figure leads.
+pub complete : Complete step
+complete = Against.complete
+
+-- The answer is the number of the first condition of document 01 that applies, and 0 exactly when none does. (The tables have 32 places: so they
+-- have in code, by their type.)
+pub exactly-when : (s : State) (t : ThreadNo) (n : NodeNo) → length (s .node) ≡ places → length (s .thread) ≡ places
+    → (m : ℕ) → (step s t n .answer ≡ m) ↔ First (conditions s t n) m
+exactly-when = Exactly.exactly-when
+
+-- A refused step leaves the state unchanged, whatever the state, valid or not.
+pub refused-unchanged : (s : State) (t : ThreadNo) (n : NodeNo) → step s t n .answer ≢ done → step s t n .state ≡ s
+refused-unchanged = Answer.unchanged
+
+-- An accepted step keeps a valid state valid.
+pub valid-kept : (s : State) (t : ThreadNo) (n : NodeNo) → Valid s → step s t n .answer ≡ done → Valid (step s t n .state)
+valid-kept = Against.valid-kept
+
+-- Two results that both meet the step's promise are equal.
+pub step-one-result : (s : State) (t : ThreadNo) (n : NodeNo) (r r′ : Stepped) → r ≡ step s t n → r′ ≡ step s t n → r ≡ r′
+step-one-result s t n r r′ = only
+
+-- A complete tool does what our step does, wherever our step accepts: demand 2 leaves no second tool.
+pub complete-same : (tool : Tool) → Complete tool → (s : State) (t : ThreadNo) (n : NodeNo) → Valid s → step s t n .answer ≡ done → tool s t n ≡ step s t n
+complete-same = Against.complete-same
