@@ -15,6 +15,7 @@ use Rattle.step.specs.declared.Stepped.{Stepped}
 use Rattle.cases.specs.Events.{Event, after, answers, linesDone}
 
 infix 68 _is_
+infix 68 _under_gives_
 -- ---- the numbers of a state, as document 01 names them: the shared ones, those of thread t, and those of node k
 abbrev pub flag : State → ℕ
 flag s = s .shared .flag
@@ -87,6 +88,10 @@ pub record Case : Type 0 where
 abbrev pub byHand : State → Opened
 byHand s = opened done s
 
+-- a case of which document 01 names the answers alone
+abbrev pub _under_gives_ : Opened → List Event → List ℕ → Case
+start under events gives answers = record { start = start; events = events; answers = answers; lines = []; numbers = [] }
+
 -- ---- when a tool passes a case
 
 -- the two lists are equal
@@ -110,6 +115,7 @@ asExpected s (r ∷ rs) = eqb (r .read s) (r .expected) && asExpected s rs
 module _ (tool : State → ThreadNo → NodeNo → Stepped) where
   -- the start is accepted, the answers and the lines are as said, and so are the numbers of the state reached
   unfoldable pub passes : Case → Bool
+  unfolding answers linesDone after equal begins asExpected
   passes c =
       let s = c .start .state in
       eqb (c .start .number) done

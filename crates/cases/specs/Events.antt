@@ -1,6 +1,6 @@
 -- Events one after the other, under any tool that takes the step's place: the state reached, the answers, and the lines executed. The useless tools
 -- are run by these definitions too, so a tool is a parameter throughout. Assumes nothing.
-use mathlib.Core.Bool.{cond}
+use mathlib.Core.Bool.{Bool, cond, true, _&&_}
 use mathlib.Core.List.{List, [], _∷_}
 use Prim.Native.Nat.{ℕ}
 use lib.Dec.{eqb}
@@ -48,3 +48,11 @@ module _ (tool : State → ThreadNo → NodeNo → Stepped) where
       let r = tool s (e .thread) (e .node) in
       let later = linesDone (r .state) es in
       cond (eqb (r .answer) done) (threadAt s (e .thread) .line ∷ later) later
+
+  -- each of the events is accepted
+  unfoldable pub acceptsAll : State → List Event → Bool
+  acceptsAll s [] = true
+  acceptsAll s (e ∷ es) =
+      let r = tool s (e .thread) (e .node) in
+      let later = acceptsAll (r .state) es in
+      eqb (r .answer) done && later

@@ -2,3 +2,5 @@
 pub mod Events
 pub mod Case
 pub mod Cases
+pub mod SameRun
+pub mod Useless

@@ -67,9 +67,10 @@ pub struct Window {
     pub node: Node,
 }
 
+// Lines 11 to 29; beside each stands what document 01 says that it does.
 const LINES: [Line; 19] = [
     Line {
-        act: Act::Choose,
+        act: Act::Choose, // 11 | my := the event's node, put in use; entered + 1
         follow: Follow::NoNode,
         wait: Wait::NoWait,
         look: Look::Straight,
@@ -77,7 +78,7 @@ const LINES: [Line; 19] = [
         other: 12,
     },
     Line {
-        act: Act::ClearNext,
+        act: Act::ClearNext, // 12 | next(my) := 0
         follow: Follow::My,
         wait: Wait::NoWait,
         look: Look::Straight,
@@ -85,7 +86,7 @@ const LINES: [Line; 19] = [
         other: 13,
     },
     Line {
-        act: Act::SetLocked,
+        act: Act::SetLocked, // 13 | locked(my) := 1
         follow: Follow::My,
         wait: Wait::NoWait,
         look: Look::Straight,
@@ -93,7 +94,7 @@ const LINES: [Line; 19] = [
         other: 14,
     },
     Line {
-        act: Act::Exchange,
+        act: Act::Exchange, // 14 | prev := tail; tail := my; slot := high; high + 1
         follow: Follow::NoNode,
         wait: Wait::NoWait,
         look: Look::Straight,
@@ -101,7 +102,7 @@ const LINES: [Line; 19] = [
         other: 15,
     },
     Line {
-        act: Act::Stay,
+        act: Act::Stay, // 15 | looks at prev
         follow: Follow::NoNode,
         wait: Wait::NoWait,
         look: Look::AtPrev,
@@ -109,7 +110,7 @@ const LINES: [Line; 19] = [
         other: 18,
     },
     Line {
-        act: Act::Stay,
+        act: Act::Stay, // 16 | waits until flag is 1
         follow: Follow::NoNode,
         wait: Wait::ForFlag,
         look: Look::Straight,
@@ -117,7 +118,7 @@ const LINES: [Line; 19] = [
         other: 17,
     },
     Line {
-        act: Act::LowerFlag,
+        act: Act::LowerFlag, // 17 | flag := 0
         follow: Follow::NoNode,
         wait: Wait::NoWait,
         look: Look::Straight,
@@ -125,7 +126,7 @@ const LINES: [Line; 19] = [
         other: 20,
     },
     Line {
-        act: Act::LinkPrev,
+        act: Act::LinkPrev, // 18 | next(prev) := my
         follow: Follow::Prev,
         wait: Wait::NoWait,
         look: Look::Straight,
@@ -133,7 +134,7 @@ const LINES: [Line; 19] = [
         other: 19,
     },
     Line {
-        act: Act::Stay,
+        act: Act::Stay, // 19 | waits until locked(my) is 0
         follow: Follow::My,
         wait: Wait::ForUnlock,
         look: Look::Straight,
@@ -141,7 +142,7 @@ const LINES: [Line; 19] = [
         other: 20,
     },
     Line {
-        act: Act::ReadNext,
+        act: Act::ReadNext, // 20 | nxmy and succ := next(my)
         follow: Follow::My,
         wait: Wait::NoWait,
         look: Look::Straight,
@@ -149,7 +150,7 @@ const LINES: [Line; 19] = [
         other: 21,
     },
     Line {
-        act: Act::Stay,
+        act: Act::Stay, // 21 | looks at succ
         follow: Follow::NoNode,
         wait: Wait::NoWait,
         look: Look::AtSucc,
@@ -157,7 +158,7 @@ const LINES: [Line; 19] = [
         other: 25,
     },
     Line {
-        act: Act::CloseTail,
+        act: Act::CloseTail, // 22 | if tail = my then tail := 0
         follow: Follow::NoNode,
         wait: Wait::NoWait,
         look: Look::AtTail,
@@ -165,7 +166,7 @@ const LINES: [Line; 19] = [
         other: 23,
     },
     Line {
-        act: Act::Stay,
+        act: Act::Stay, // 23 | waits until next(my) is not 0
         follow: Follow::My,
         wait: Wait::ForLink,
         look: Look::Straight,
@@ -173,7 +174,7 @@ const LINES: [Line; 19] = [
         other: 24,
     },
     Line {
-        act: Act::ReadNext,
+        act: Act::ReadNext, // 24 | nxmy and succ := next(my)
         follow: Follow::My,
         wait: Wait::NoWait,
         look: Look::Straight,
@@ -181,7 +182,7 @@ const LINES: [Line; 19] = [
         other: 25,
     },
     Line {
-        act: Act::SendMess,
+        act: Act::SendMess, // 25 | mess := succ
         follow: Follow::NoNode,
         wait: Wait::NoWait,
         look: Look::Straight,
@@ -189,7 +190,7 @@ const LINES: [Line; 19] = [
         other: 26,
     },
     Line {
-        act: Act::Release,
+        act: Act::Release, // 26 | succ := 0; my is no longer in use (the number stays)
         follow: Follow::My,
         wait: Wait::NoWait,
         look: Look::Straight,
@@ -197,7 +198,7 @@ const LINES: [Line; 19] = [
         other: 27,
     },
     Line {
-        act: Act::Stay,
+        act: Act::Stay, // 27 | the critical section
         follow: Follow::NoNode,
         wait: Wait::NoWait,
         look: Look::Straight,
@@ -205,7 +206,7 @@ const LINES: [Line; 19] = [
         other: 28,
     },
     Line {
-        act: Act::TakeMess,
+        act: Act::TakeMess, // 28 | succ := mess
         follow: Follow::NoNode,
         wait: Wait::NoWait,
         look: Look::Straight,
@@ -213,7 +214,7 @@ const LINES: [Line; 19] = [
         other: 29,
     },
     Line {
-        act: Act::PassOn,
+        act: Act::PassOn, // 29 | if succ is not 0, locked(succ) := 0, else flag := 1; low + 1
         follow: Follow::Succ,
         wait: Wait::NoWait,
         look: Look::Straight,

@@ -1,19 +1,15 @@
+-- `acts::pass_on` meets its contract. By the test of succ. Assumes nothing.
 use borrow.Author.Tests.{eq-eqb, ne-eqb}
 use borrow.Author.Needs.{needs}
 use Rattle.acts.proofs.pass_on.Statement.{statement}
 use Rattle.acts.proofs.pass_on.Tie as tie
-use Rattle.acts.proofs.pass_on.Reads as reads
-use Rattle.acts.proofs.pass_on.Lts as lts
 
--- src/lib.rt:208:24
 add-t7 : tie.Need-add-t7
 add-t7 c = search needs
 
--- src/lib.rt:200:1
 returns : tie.Need-returns
 returns c = simp (eq-eqb _ _ (c .if1 .taken))
 
--- src/lib.rt:200:1
 returns-2 : tie.Need-returns-2
 returns-2 c = simp (ne-eqb _ _ (c .if1 .left))
 

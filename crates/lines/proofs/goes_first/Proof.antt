@@ -1,38 +1,29 @@
+-- `lines::goes_first` meets its contract. In each arm the definition computes at the arm's variant. Assumes nothing.
 use borrow.Author.Needs.{needs}
 use Rattle.lines.proofs.goes_first.Statement.{statement}
 use Rattle.lines.proofs.goes_first.Tie as tie
-use Rattle.lines.proofs.goes_first.Reads as reads
-use Rattle.lines.proofs.goes_first.Lts as lts
 
--- src/lib.rt:274:27
 enum-told : tie.Need-enum-told
 enum-told c = search needs
 
--- src/lib.rt:275:25
 enum-told-2 : tie.Need-enum-told-2
 enum-told-2 c = search needs
 
--- src/lib.rt:276:25
 enum-told-3 : tie.Need-enum-told-3
 enum-told-3 c = search needs
 
--- src/lib.rt:277:25
 enum-told-4 : tie.Need-enum-told-4
 enum-told-4 c = search needs
 
--- src/lib.rt:266:1
 returns : tie.Need-returns
 returns c = search needs
 
--- src/lib.rt:266:1
 returns-2 : tie.Need-returns-2
 returns-2 c = rw (c .enum-told2 .given .1)
 
--- src/lib.rt:266:1
 returns-3 : tie.Need-returns-3
 returns-3 c = rw (c .enum-told3 .given .1)
 
--- src/lib.rt:266:1
 returns-4 : tie.Need-returns-4
 returns-4 c = rw (c .enum-told4 .given .1)
 

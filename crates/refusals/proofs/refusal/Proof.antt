@@ -1,85 +1,57 @@
+-- `refusals::refusal` meets its contract. Each `first` and each test is what its contract says, from refusal 6 down to 12; put in, they are the table of refusals. Assumes nothing.
 use Rattle.refusals.specs.Refusals.{refusal}
 use borrow.Author.Needs.{needs}
 use Rattle.refusals.proofs.refusal.Statement.{statement}
 use Rattle.refusals.proofs.refusal.Tie as tie
-use Rattle.refusals.proofs.refusal.Reads as reads
-use Rattle.refusals.proofs.refusal.Lts as lts
-use Rattle.refusals.proofs.bad_node.Reads as bad-node-reads
-use Rattle.refusals.proofs.count_of.Reads as count-of-reads
-use Rattle.refusals.proofs.first.Reads as first-reads
-use Rattle.refusals.proofs.follows_empty.Reads as follows-empty-reads
-use Rattle.refusals.proofs.follows_unused.Reads as follows-unused-reads
-use Rattle.refusals.proofs.must_stay.Reads as must-stay-reads
-use Rattle.refusals.proofs.no_entry.Reads as no-entry-reads
-use Rattle.refusals.proofs.no_place.Reads as no-place-reads
-use Rattle.refusals.proofs.taken.Reads as taken-reads
-use Rattle.refusals.proofs.wait_number.Reads as wait-number-reads
 
--- src/lib.rt:172:9
 count-of-requires : tie.Need-count-of-requires
 count-of-requires c κs = search needs
 
--- src/lib.rt:173:21
 must-stay-requires : tie.Need-must-stay-requires
 must-stay-requires c κs = search needs
 
--- src/lib.rt:173:53
 wait-number-requires : tie.Need-wait-number-requires
 wait-number-requires c κs = search needs
 
--- src/lib.rt:173:9
 first-requires : tie.Need-first-requires
 first-requires c κs = search needs
 
--- src/lib.rt:174:21
 no-place-requires : tie.Need-no-place-requires
 no-place-requires c κs = search needs
 
--- src/lib.rt:174:9
 first-requires-2 : tie.Need-first-requires-2
 first-requires-2 c κs = search needs
 
--- src/lib.rt:175:21
 follows-unused-requires : tie.Need-follows-unused-requires
 follows-unused-requires c κs = search needs
 
--- src/lib.rt:175:9
 first-requires-3 : tie.Need-first-requires-3
 first-requires-3 c κs = search needs
 
--- src/lib.rt:176:20
 follows-empty-requires : tie.Need-follows-empty-requires
 follows-empty-requires c κs = search needs
 
--- src/lib.rt:176:9
 first-requires-4 : tie.Need-first-requires-4
 first-requires-4 c κs = search needs
 
--- src/lib.rt:177:20
 taken-requires : tie.Need-taken-requires
 taken-requires c κs = search needs
 
--- src/lib.rt:177:9
 first-requires-5 : tie.Need-first-requires-5
 first-requires-5 c κs = search needs
 
--- src/lib.rt:178:20
 no-entry-requires : tie.Need-no-entry-requires
 no-entry-requires c κs = search needs
 
--- src/lib.rt:178:9
 first-requires-6 : tie.Need-first-requires-6
 first-requires-6 c κs = search needs
 
--- src/lib.rt:179:11
 bad-node-requires : tie.Need-bad-node-requires
 bad-node-requires c κs = search needs
 
--- src/lib.rt:179:5
 first-requires-7 : tie.Need-first-requires-7
 first-requires-7 c κs = search needs
 
--- src/lib.rt:164:1
 returns : tie.Need-returns
 unfolding refusal
 returns c =

@@ -1,3 +1,4 @@
+-- `step::advance` meets its contract. What each call ensures, put in from the thread on; the answer decides whether the window is put back. Assumes nothing.
 use mathlib.Core.Bool.{false}
 use mathlib.Core.Path.{_≡_, ap, sym, _∙_}
 use borrow.Author.Tests.{eq-eqb, ne-eqb}
@@ -7,46 +8,29 @@ use Rattle.step.specs.Step.{advance, noThread, toldOf}
 use borrow.Author.Needs.{needs}
 use Rattle.step.proofs.advance.Statement.{statement}
 use Rattle.step.proofs.advance.Tie as tie
-use Rattle.step.proofs.advance.Reads as reads
-use Rattle.step.proofs.advance.Lts as lts
-use Rattle.acts.proofs.tell.Reads as tell-reads
-use Rattle.lines.proofs.followed.Reads as followed-reads
-use Rattle.lines.proofs.line_of.Reads as line-of-reads
-use Rattle.lock.proofs.node_of.Reads as node-of-reads
-use Rattle.lock.proofs.thread_of.Reads as thread-of-reads
-use Rattle.step.proofs.close.Reads as close-reads
-use Rattle.step.proofs.no_thread.Reads as no-thread-reads
 
--- src/lib.rt:45:8
 no-thread-requires : tie.Need-no-thread-requires
 no-thread-requires c κs = search needs
 
--- src/lib.rt:46:9
 returns : tie.Need-returns
 unfolding advance
 returns c = rw (sym (c .before .no-thread .ensures) ∙ c .if1 .taken)
 
--- src/lib.rt:51:9
 thread-of-requires : tie.Need-thread-of-requires
 thread-of-requires c κs = search needs
 
--- src/lib.rt:52:9
 line-of-requires : tie.Need-line-of-requires
 line-of-requires c κs = search needs
 
--- src/lib.rt:54:9
 followed-requires : tie.Need-followed-requires
 followed-requires c κs = search needs
 
--- src/lib.rt:55:9
 node-of-requires : tie.Need-node-of-requires
 node-of-requires c κs = search needs
 
--- src/lib.rt:61:9
 tell-requires : tie.Need-tell-requires
 tell-requires c κs = search needs
 
--- src/lib.rt:65:13
 close-requires : tie.Need-close-requires
 close-requires c κs = search needs
 
@@ -64,7 +48,6 @@ told-is c =
       c .before .before .before .before .thread-of .ensures,
     )
 
--- src/lib.rt:66:9
 returns-2 : tie.Need-returns-2
 unfolding advance
 returns-2 c =
@@ -81,7 +64,6 @@ returns-2 c =
       thread .thread-of .ensures,
     )
 
--- src/lib.rt:41:1
 returns-3 : tie.Need-returns-3
 unfolding advance
 returns-3 c =

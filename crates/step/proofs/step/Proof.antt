@@ -1,27 +1,20 @@
+-- `step::step` meets its contract. By what `valid` ensures. Assumes nothing.
 use mathlib.Core.Path.{sym, _∙_}
 use Rattle.step.specs.Step.{step}
 use borrow.Author.Needs.{needs}
 use Rattle.step.proofs.step.Statement.{statement}
 use Rattle.step.proofs.step.Tie as tie
-use Rattle.step.proofs.step.Reads as reads
-use Rattle.step.proofs.step.Lts as lts
-use Rattle.lock.proofs.valid.Reads as valid-reads
-use Rattle.step.proofs.advance.Reads as advance-reads
 
--- src/lib.rt:78:8
 valid-requires : tie.Need-valid-requires
 valid-requires c κs = search needs
 
--- src/lib.rt:79:9
 advance-requires : tie.Need-advance-requires
 advance-requires c κs = search needs
 
--- src/lib.rt:79:9
 returns : tie.Need-returns
 unfolding step
 returns c = rw (sym (c .before .before .valid .ensures) ∙ c .before .if1 .taken) (c .advance .ensures)
 
--- src/lib.rt:75:1
 returns-2 : tie.Need-returns-2
 unfolding step
 returns-2 c = rw (sym (c .before .valid .ensures) ∙ c .if1 .left)
