@@ -9,6 +9,7 @@ use Rattle.lock.specs.declared.Node.{Node}
 use Rattle.lock.specs.declared.Shared.{Shared}
 use Rattle.lock.specs.declared.Thread.{Thread}
 use Rattle.number.specs.Numbers.{isNone, none, same}
+use Rattle.number.specs.Sizes.{firstLine}
 use Rattle.number.specs.declared.NodeNo.{NodeNo}
 use Rattle.lines.specs.declared.Act.{Act}
 use Rattle.lines.specs.declared.Act.the-variants.{Choose, ClearNext, SetLocked, Exchange, Stay, LowerFlag, LinkPrev, ReadNext, CloseTail, SendMess, Release, TakeMess, PassOn}
@@ -74,7 +75,7 @@ offTable = row Stay NoNode NoWait Straight 0 0
 
 -- the row of a line: the table "indexed by line minus 11"
 unfoldable pub lineAt : ℕ → Line
-lineAt n = cond (ltb n 11) offTable (getD lines (n - 11) offTable)
+lineAt n = cond (ltb n firstLine) offTable (getD lines (n - firstLine) offTable)
 
 -- the node that a thread's line follows; 0 where it follows none
 abbrev pub followedBy : Follow → Thread → NodeNo

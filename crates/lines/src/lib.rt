@@ -3,11 +3,11 @@
 // Rests on `number` and `lock`.
 ghost use mathlib.Core.Path.{_≡_};
 ghost use Rattle.lines.specs.Lines.{followedBy, goesFirst, lineAt, nextLine, offTable};
-use lock::FIRST_LINE;
-use lock::LAST_LINE;
 use lock::Node;
 use lock::Shared;
 use lock::Thread;
+use number::FIRST_LINE;
+use number::LAST_LINE;
 use number::NodeNo;
 
 // What a line does, but for the line number; `Stay` is nothing.

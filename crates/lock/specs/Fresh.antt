@@ -7,7 +7,7 @@ use lib.ListN.{replicate}
 use Rattle.number.specs.Numbers.{none, place}
 use Rattle.number.specs.Refused.{badSize, done}
 use Rattle.number.specs.Sizes.{mostNodes, mostThreads}
-use Rattle.lock.specs.State.{_⟨line≔_⟩, places, zeroNode, zeroState, zeroThread}
+use Rattle.lock.specs.State.{_⟨line≔_⟩, tableSize, zeroNode, zeroState, zeroThread}
 use Rattle.lock.specs.declared.Opened.{Opened}
 use Rattle.lock.specs.declared.Shared.{Shared}
 use Rattle.lock.specs.declared.State.{State}
@@ -23,7 +23,7 @@ idle = zeroThread ⟨line≔ 11 ⟩
 
 -- the first T threads idle, and 0 in every place past T
 unfoldable pub idleTo : ℕ → List Thread
-idleTo T = replicate T idle ++ replicate (places - T) zeroThread
+idleTo T = replicate T idle ++ replicate (tableSize - T) zeroThread
 
 -- "Fresh: flag 1, tail 0, low = high = 1, entered 0, no node in use, each thread at line 11, every other number 0."
 abbrev pub freshShared : ℕ → ℕ → Shared
@@ -40,7 +40,7 @@ freshShared T K = record {
 }
 
 abbrev pub freshState : ℕ → ℕ → State
-freshState T K = record { shared = freshShared T K; node = replicate places zeroNode; thread = idleTo T }
+freshState T K = record { shared = freshShared T K; node = replicate tableSize zeroNode; thread = idleTo T }
 
 abbrev pub opened : ℕ → State → Opened
 opened number s = record { number = number; state = s }

@@ -14,9 +14,9 @@ use Rattle.number.specs.Numbers.{node, place, thread}
 use Rattle.number.specs.Sizes.{mostNodes, mostThreads}
 use Rattle.word.specs.Laws.{from-none, none-from}
 use Rattle.lock.specs.Fresh.{inSize}
-use Rattle.lock.specs.State.{nth, places, zeroNode, zeroThread}
+use Rattle.lock.specs.State.{nth, zeroNode, zeroThread}
 use Rattle.number.specs.Tests.{EachHolds, all-hold, both-hold, each-holds, first-holds, second-holds}
-use Rattle.lock.specs.Valid.{Between, NodeRange, SharedRange, ThreadRange, Valid, nodesValid, sharedTests, sharedValid, threadsValid, upTo, valid}
+use Rattle.lock.specs.Valid.{Between, NodeRange, SharedRange, Sized, ThreadRange, Valid, nodesValid, sharedTests, sharedValid, threadsValid, upTo, valid}
 use Rattle.lock.specs.Valid.{nodeInRange, nodeIsZero, nodeTests, nodeZeros, threadInRange, threadIsZero, threadTests, threadZeros}
 use Rattle.lock.specs.declared.Node.{Node}
 use Rattle.lock.specs.declared.Shared.{Shared}
@@ -169,10 +169,10 @@ threads-agree nodes =
 
 -- ---- the state
 
--- A state that passes the test is as the rule says. (Its tables have 32 places each; in code their type says so.)
-pub valid-rule : (s : State) → length (s .node) ≡ places → length (s .thread) ≡ places → valid s ≡ true → Valid s
+-- A state that passes the test is as the rule says.
+pub valid-rule : (s : State) → Sized s → valid s ≡ true → Valid s
 unfolding valid nodesValid threadsValid
-valid-rule s a b h =
+valid-rule s sized h =
     let K = s .shared .nodes in
     let before = sharedValid (s .shared) && nodesValid K (s .node) in
     let front = first-holds before _ h in
@@ -185,8 +185,7 @@ valid-rule s a b h =
       thread = λ t l m. threads .within (t .0) l m;
       past-nodes = λ k l. nodes .past (k .0) l;
       past-threads = λ t l. threads .past (t .0) l;
-      node-places = a;
-      thread-places = b;
+      sized = sized;
     }
 
 -- A state that is as the rule says passes the test.

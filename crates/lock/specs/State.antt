@@ -4,6 +4,7 @@ use mathlib.Core.List.{List}
 use Prim.Native.Nat.{ℕ, zero, suc}
 use lib.ListN.{getD, replicate, set}
 use Rattle.number.specs.Numbers.{none, place}
+use Rattle.number.specs.Sizes.{mostNodes}
 use Rattle.number.specs.declared.NodeNo.{NodeNo}
 use Rattle.number.specs.declared.Place.{Place}
 use Rattle.number.specs.declared.ThreadNo.{ThreadNo}
@@ -40,12 +41,12 @@ zeroThread = record { line = 0; my = none; prev = none; succ = none; nxmy = none
 abbrev pub zeroShared : Shared
 zeroShared = record { threads = 0; nodes = 0; flag = 0; tail = none; mess = none; low = place 0; high = place 0; entered = 0; used = 0 }
 
--- the tables of a state have 32 places
-abbrev pub places : ℕ
-places = 32
+-- both tables of a state have room for 32, the most threads and the most nodes
+abbrev pub tableSize : ℕ
+tableSize = mostNodes
 
 abbrev pub zeroState : State
-zeroState = record { shared = zeroShared; node = replicate places zeroNode; thread = replicate places zeroThread }
+zeroState = record { shared = zeroShared; node = replicate tableSize zeroNode; thread = replicate tableSize zeroThread }
 
 -- ---- what stands at a number. Threads and nodes are numbered from 1; at 0 and past the table stand zeros, and nothing is stored.
 abbrev pub nth : {A : Type 0} → List A → ℕ → A → A

@@ -13,7 +13,7 @@ use Rattle.number.specs.Sizes.{mostNodes, mostThreads}
 use Rattle.lock.specs.Fresh.{fresh, freshState, idle, idleTo, inSize, opened}
 use Rattle.lock.specs.Judged.{size-rule}
 use Rattle.lock.specs.Laws.{nth-after-front, nth-front}
-use Rattle.lock.specs.State.{places, zeroNode, zeroState, zeroThread}
+use Rattle.lock.specs.State.{tableSize, zeroNode, zeroState, zeroThread}
 use Rattle.lock.specs.Valid.{Between, Valid, valid}
 use Rattle.lock.specs.declared.Opened.{Opened}
 use Rattle.lock.specs.declared.State.{State}
@@ -35,12 +35,11 @@ fresh-valid T K h =
     let size : Between 1 T mostThreads × Between 1 K mostNodes = size-rule T K h in
     record {
       shared = omega (arith, pow-pos K);
-      node = λ j a b. rw (nth-after-front zeroNode zeroNode 0 places (j .0) a) (omega arith);
-      thread = λ j a b. rw (nth-front idle zeroThread T (places - T) (j .0) a b) (omega arith);
-      past-nodes = λ j a. nth-after-front zeroNode zeroNode 0 places (j .0) (omega arith);
-      past-threads = λ j a. nth-after-front idle zeroThread T (places - T) (j .0) a;
-      node-places = length-replicate places zeroNode;
-      thread-places = simp (length-append, length-replicate) (omega arith);
+      node = λ j a b. rw (nth-after-front zeroNode zeroNode 0 tableSize (j .0) a) (omega arith);
+      thread = λ j a b. rw (nth-front idle zeroThread T (tableSize - T) (j .0) a b) (omega arith);
+      past-nodes = λ j a. nth-after-front zeroNode zeroNode 0 tableSize (j .0) (omega arith);
+      past-threads = λ j a. nth-after-front idle zeroThread T (tableSize - T) (j .0) a;
+      sized = record { nodes = length-replicate tableSize zeroNode; threads = simp (length-append, length-replicate) (omega arith) };
     }
 
 -- No second result fits the promise of `fresh`.

@@ -7,13 +7,13 @@ use mathlib.Core.Path.{_≡_}
 use Prim.Native.Nat.{ℕ, zero, suc, _≤_, _<_, _^_}
 use lib.Dec.{eqb, leb, ltb}
 use lib.ListN.{length}
-use Rattle.number.specs.Sizes.{lastPlace, mostEntries, mostNodes, mostThreads}
+use Rattle.number.specs.Sizes.{firstLine, lastLine, lastPlace, mostEntries, mostNodes, mostThreads}
 use Rattle.number.specs.Tests.{allHold}
 use Rattle.number.specs.declared.NodeNo.{NodeNo}
 use Rattle.number.specs.declared.ThreadNo.{ThreadNo}
 use Rattle.word.specs.Word.{noneFrom}
 use Rattle.lock.specs.Fresh.{inSize}
-use Rattle.lock.specs.State.{nodeAt, places, threadAt, zeroNode, zeroThread}
+use Rattle.lock.specs.State.{nodeAt, tableSize, threadAt, zeroNode, zeroThread}
 use Rattle.lock.specs.declared.Node.{Node}
 use Rattle.lock.specs.declared.Shared.{Shared}
 use Rattle.lock.specs.declared.State.{State}
@@ -46,22 +46,26 @@ pub record NodeRange (nodes : ℕ) (v : Node) : Type 0 where
 
 -- Lines are 11 to 29. My, prev, succ and nxmy are 0 to K, slot is at most 1,000,000.
 pub record ThreadRange (nodes : ℕ) (v : Thread) : Type 0 where
-  pub line : Between 11 (v .line) 29
+  pub line : Between firstLine (v .line) lastLine
   pub my : v .my .0 ≤ nodes
   pub prev : v .prev .0 ≤ nodes
   pub succ : v .succ .0 ≤ nodes
   pub nxmy : v .nxmy .0 ≤ nodes
   pub slot : v .slot .0 ≤ mostEntries
 
--- A state in the ranges, with 0 in every place past T or K. (Its tables have 32 places each; in code their type says so.)
+-- The tables have room for 32 each. (In code their type says so.)
+pub record Sized (s : State) : Type 0 where
+  pub nodes : length (s .node) ≡ tableSize
+  pub threads : length (s .thread) ≡ tableSize
+
+-- A state in the ranges, with 0 in every place past T or K.
 pub record Valid (s : State) : Type 0 where
   pub shared : SharedRange (s .shared)
   pub node : (k : NodeNo) → 1 ≤ k .0 → k .0 ≤ s .shared .nodes → NodeRange (s .shared .nodes) (nodeAt s k)
   pub thread : (t : ThreadNo) → 1 ≤ t .0 → t .0 ≤ s .shared .threads → ThreadRange (s .shared .nodes) (threadAt s t)
   pub past-nodes : (k : NodeNo) → s .shared .nodes < k .0 → nodeAt s k ≡ zeroNode
   pub past-threads : (t : ThreadNo) → s .shared .threads < t .0 → threadAt s t ≡ zeroThread
-  pub node-places : length (s .node) ≡ places
-  pub thread-places : length (s .thread) ≡ places
+  pub sized : Sized s
 
 -- ---- the test
 
@@ -96,8 +100,8 @@ nodeIsZero v = allHold (nodeZeros v)
 
 abbrev pub threadTests : ℕ → Thread → List Bool
 threadTests nodes v =
-    leb 11 (v .line)
-    ∷ leb (v .line) 29
+    leb firstLine (v .line)
+    ∷ leb (v .line) lastLine
     ∷ leb (v .my .0) nodes
     ∷ leb (v .prev .0) nodes
     ∷ leb (v .succ .0) nodes

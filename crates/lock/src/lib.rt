@@ -8,6 +8,8 @@ ghost use Rattle.lock.specs.State.{_⟨node_≔_⟩, _⟨thread_≔_⟩,
 ghost use Rattle.lock.specs.Valid.{nodeInRange, nodeIsZero, nodesValid, pickUpTo, sharedValid, threadInRange, threadIsZero, threadsValid, valid as validOf};
 use number::BAD_SIZE;
 use number::DONE;
+use number::FIRST_LINE;
+use number::LAST_LINE;
 use number::LAST_PLACE;
 use number::MOST_ENTRIES;
 use number::MOST_NODES;
@@ -15,11 +17,6 @@ use number::MOST_THREADS;
 use number::NodeNo;
 use number::Place;
 use number::ThreadNo;
-
-// The lines of Figure 1 are numbered 11 to 29.
-pub const FIRST_LINE: u8 = 11;
-
-pub const LAST_LINE: u8 = 29;
 
 pub struct Node {
     pub next: NodeNo,

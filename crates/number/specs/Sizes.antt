@@ -13,6 +13,13 @@ mostNodes = 32
 abbrev pub mostEntries : ℕ
 mostEntries = 1_000_000
 
+-- "lines 11 to 29"
+abbrev pub firstLine : ℕ
+firstLine = 11
+
+abbrev pub lastLine : ℕ
+lastLine = 29
+
 -- "Low and high are 1 to 1,000,001"
 abbrev pub lastPlace : ℕ
 lastPlace = 1_000_001

@@ -10,6 +10,11 @@ pub const MOST_ENTRIES: u32 = 1_000_000;
 // Low and high are 1 to 1,000,001.
 pub const LAST_PLACE: u32 = 1_000_001;
 
+// The lines of Figure 1 are numbered 11 to 29.
+pub const FIRST_LINE: u8 = 11;
+
+pub const LAST_LINE: u8 = 29;
+
 // Refusal numbers, each given exactly when the table of document 01 says; success is 0.
 pub const DONE: u8 = 0;
 

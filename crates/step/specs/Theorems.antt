@@ -2,9 +2,7 @@
 use mathlib.Core.Logic.{_≢_, _↔_}
 use mathlib.Core.Path.{_≡_}
 use Prim.Native.Nat.{ℕ}
-use lib.ListN.{length}
-use Rattle.lock.specs.State.{places}
-use Rattle.lock.specs.Valid.{Valid}
+use Rattle.lock.specs.Valid.{Sized, Valid}
 use Rattle.lock.specs.declared.State.{State}
 use Rattle.number.specs.OneResult.{only}
 use Rattle.number.specs.Refused.{done}
@@ -26,10 +24,8 @@ sound = Against.sound
 pub complete : Complete step
 complete = Against.complete
 
--- The answer is the number of the first condition of document 01 that applies, and 0 exactly when none does. (The tables have 32 places: so they
--- have in code, by their type.)
-pub exactly-when : (s : State) (t : ThreadNo) (n : NodeNo) → length (s .node) ≡ places → length (s .thread) ≡ places
-    → (m : ℕ) → (step s t n .answer ≡ m) ↔ First (conditions s t n) m
+-- The answer is the number of the first condition of document 01 that applies, and 0 exactly when none does.
+pub exactly-when : (s : State) (t : ThreadNo) (n : NodeNo) → Sized s → (m : ℕ) → (step s t n .answer ≡ m) ↔ First (conditions s t n) m
 exactly-when = Exactly.exactly-when
 
 -- A refused step leaves the state unchanged, whatever the state, valid or not.

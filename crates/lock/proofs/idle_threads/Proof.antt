@@ -5,7 +5,7 @@ use Prim.Native.Nat.{_-_, _≤_}
 use native.Mathlib.Omega.{arith}
 use borrow.Author.Needs.{needs}
 use Rattle.lock.specs.Fresh.{idle, idleTo}
-use Rattle.lock.specs.State.{places, zeroThread}
+use Rattle.lock.specs.State.{tableSize, zeroThread}
 use Rattle.lock.proofs.Laws.{fill-more}
 use Rattle.lock.proofs.idle_threads.Statement.{statement}
 use Rattle.lock.proofs.idle_threads.Tie as tie
@@ -42,7 +42,7 @@ loop-again : tie.Need-loop-again Inv-loop μ-loop
 unfolding idleTo
 loop-again c =
     let l = c .before .loop in
-    (omega arith, rw (c .before .before .before .zero-thread .ensures, l .inv .1) (fill-more idle zeroThread places (l .i) (omega arith)))
+    (omega arith, rw (c .before .before .before .zero-thread .ensures, l .inv .1) (fill-more idle zeroThread tableSize (l .i) (omega arith)))
 
 returns : tie.Need-returns Inv-loop μ-loop
 returns c =

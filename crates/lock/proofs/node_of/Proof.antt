@@ -5,7 +5,7 @@ use native.Mathlib.Omega.{arith}
 use lib.ListN.{length}
 use borrow.Author.Needs.{needs}
 use Rattle.lock.specs.Laws.{length-mapped, nth-in, nth-none, nth-past}
-use Rattle.lock.specs.State.{places}
+use Rattle.lock.specs.State.{tableSize}
 use Rattle.lock.proofs.node_of.Statement.{statement}
 use Rattle.lock.proofs.node_of.Tie as tie
 
@@ -21,7 +21,7 @@ zero-node-requires-2 c κs = search needs
 returns-2 : tie.Need-returns-2
 returns-2 c =
     let a = c .before .before .before .args in
-    let h : length (a .t1 .node) ≡ places = search length-mapped in
+    let h : length (a .t1 .node) ≡ tableSize = search length-mapped in
     c .zero-node2 .ensures ∙ nth-past (a .t1 .node) (a .k .0) _ (omega arith)
 
 sub-i : tie.Need-sub-i

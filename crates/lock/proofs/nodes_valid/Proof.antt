@@ -7,14 +7,14 @@ use native.Mathlib.Omega.{arith}
 use lib.ListN.{drop, length}
 use borrow.Author.Needs.{needs}
 use Rattle.lock.specs.Laws.{length-mapped}
-use Rattle.lock.specs.State.{places, zeroNode}
+use Rattle.lock.specs.State.{tableSize, zeroNode}
 use Rattle.lock.specs.Valid.{nodeInRange, nodeIsZero, nodesValid, upTo}
 use Rattle.lock.proofs.Laws.{judged-none, judge-more}
 use Rattle.lock.proofs.nodes_valid.Statement.{statement}
 use Rattle.lock.proofs.nodes_valid.Tie as tie
 
 abbrev Inv-loop : tie.InvT-loop
-Inv-loop s nodes ok₀ i₀ ok i = (i ≤ places) × (ok ≡ upTo (nodeInRange nodes) nodeIsZero (nodes - i) (drop i (s .node)))
+Inv-loop s nodes ok₀ i₀ ok i = (i ≤ tableSize) × (ok ≡ upTo (nodeInRange nodes) nodeIsZero (nodes - i) (drop i (s .node)))
 
 abbrev μ-loop : tie.MeasureT-loop
 μ-loop s nodes ok₀ i₀ ok i = i
@@ -26,8 +26,8 @@ loop-holds : tie.Need-loop-holds Inv-loop μ-loop
 loop-holds c =
     let s = c .args .t1 in
     let K = s .shared .nodes in
-    let h : length (s .node) ≡ places = search length-mapped in
-    (search needs, judged-none (nodeInRange K) nodeIsZero K (s .node) places (omega arith))
+    let h : length (s .node) ≡ tableSize = search length-mapped in
+    (search needs, judged-none (nodeInRange K) nodeIsZero K (s .node) tableSize (omega arith))
 
 sub-i : tie.Need-sub-i Inv-loop μ-loop
 sub-i c = search needs
@@ -55,10 +55,10 @@ loop-again c =
     let l = c .before .before .before .before .before .loop in
     let s = c .before .before .before .before .before .before .args .t1 in
     let K = s .shared .nodes in
-    let h : length (s .node) ≡ places = search length-mapped in
+    let h : length (s .node) ≡ tableSize = search length-mapped in
     let within = c .before .before .node-in-range .ensures in
     let past = c .before .node-is-zero .ensures in
-    let less : l .i - 1 ≤ places = omega arith in
+    let less : l .i - 1 ≤ tableSize = omega arith in
     let more = judge-more (nodeInRange K) nodeIsZero K (s .node) zeroNode (l .i) (omega arith) (omega arith) (l .inv .1) in
     (less, more (c .pick-up-to .ensures) within past)
 

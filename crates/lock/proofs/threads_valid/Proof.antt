@@ -7,14 +7,14 @@ use native.Mathlib.Omega.{arith}
 use lib.ListN.{drop, length}
 use borrow.Author.Needs.{needs}
 use Rattle.lock.specs.Laws.{length-mapped}
-use Rattle.lock.specs.State.{places, zeroThread}
+use Rattle.lock.specs.State.{tableSize, zeroThread}
 use Rattle.lock.specs.Valid.{threadInRange, threadIsZero, threadsValid, upTo}
 use Rattle.lock.proofs.Laws.{judged-none, judge-more}
 use Rattle.lock.proofs.threads_valid.Statement.{statement}
 use Rattle.lock.proofs.threads_valid.Tie as tie
 
 abbrev Inv-loop : tie.InvT-loop
-Inv-loop s nodes threads ok₀ i₀ ok i = (i ≤ places) × (ok ≡ upTo (threadInRange nodes) threadIsZero (threads - i) (drop i (s .thread)))
+Inv-loop s nodes threads ok₀ i₀ ok i = (i ≤ tableSize) × (ok ≡ upTo (threadInRange nodes) threadIsZero (threads - i) (drop i (s .thread)))
 
 abbrev μ-loop : tie.MeasureT-loop
 μ-loop s nodes threads ok₀ i₀ ok i = i
@@ -27,8 +27,8 @@ loop-holds c =
     let s = c .args .t1 in
     let K = s .shared .nodes in
     let T = s .shared .threads in
-    let h : length (s .thread) ≡ places = search length-mapped in
-    (search needs, judged-none (threadInRange K) threadIsZero T (s .thread) places (omega arith))
+    let h : length (s .thread) ≡ tableSize = search length-mapped in
+    (search needs, judged-none (threadInRange K) threadIsZero T (s .thread) tableSize (omega arith))
 
 sub-i : tie.Need-sub-i Inv-loop μ-loop
 sub-i c = search needs
@@ -57,10 +57,10 @@ loop-again c =
     let s = c .before .before .before .before .before .before .args .t1 in
     let K = s .shared .nodes in
     let T = s .shared .threads in
-    let h : length (s .thread) ≡ places = search length-mapped in
+    let h : length (s .thread) ≡ tableSize = search length-mapped in
     let within = c .before .before .thread-in-range .ensures in
     let past = c .before .thread-is-zero .ensures in
-    let less : l .i - 1 ≤ places = omega arith in
+    let less : l .i - 1 ≤ tableSize = omega arith in
     let more = judge-more (threadInRange K) threadIsZero T (s .thread) zeroThread (l .i) (omega arith) (omega arith) (l .inv .1) in
     (less, more (c .pick-up-to .ensures) within past)
 

@@ -6,7 +6,7 @@ use native.Mathlib.Omega.{arith}
 use lib.ListN.{length}
 use borrow.Author.Needs.{needs}
 use Rattle.lock.specs.Laws.{length-mapped, set-in, set-none, set-past}
-use Rattle.lock.specs.State.{places}
+use Rattle.lock.specs.State.{tableSize}
 use Rattle.lock.specs.declared.Node.{Node}
 use Rattle.lock.specs.declared.State.{State}
 use Rattle.lock.proofs.with_node.Statement.{statement}
@@ -22,7 +22,7 @@ returns c = let a = c .before .args in ap (withNodes (a .s)) (set-none (a .s .no
 returns-2 : tie.Need-returns-2
 returns-2 c =
     let a = c .before .before .args in
-    let h : length (a .s .node) ≡ places = search length-mapped in
+    let h : length (a .s .node) ≡ tableSize = search length-mapped in
     ap (withNodes (a .s)) (set-past (a .s .node) (a .k .0) (a .v) (omega arith))
 
 sub-i : tie.Need-sub-i

@@ -6,7 +6,7 @@ use native.Mathlib.Omega.{arith}
 use lib.ListN.{length}
 use borrow.Author.Needs.{needs}
 use Rattle.lock.specs.Laws.{length-mapped, set-in, set-none, set-past}
-use Rattle.lock.specs.State.{places}
+use Rattle.lock.specs.State.{tableSize}
 use Rattle.lock.specs.declared.Thread.{Thread}
 use Rattle.lock.specs.declared.State.{State}
 use Rattle.lock.proofs.with_thread.Statement.{statement}
@@ -22,7 +22,7 @@ returns c = let a = c .before .args in ap (withThreads (a .s)) (set-none (a .s .
 returns-2 : tie.Need-returns-2
 returns-2 c =
     let a = c .before .before .args in
-    let h : length (a .s .thread) ≡ places = search length-mapped in
+    let h : length (a .s .thread) ≡ tableSize = search length-mapped in
     ap (withThreads (a .s)) (set-past (a .s .thread) (a .t .0) (a .v) (omega arith))
 
 sub-i : tie.Need-sub-i

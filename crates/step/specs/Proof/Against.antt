@@ -13,7 +13,7 @@ use Rattle.acts.specs.Clear.{clear}
 use Rattle.figure.specs.Figure.{Figure, entered, flag, high, line, local, locked, low, my, next}
 use Rattle.figure.specs.Figure.Figure.{line11, line12, line13, line14, line15, line16, line17, line18, line19, line20, line21, line22, line23, line24, line25, line26, line27, line28, line29}
 use Rattle.lines.specs.Lines.{lineAt}
-use Rattle.lock.specs.State.{places, threadAt}
+use Rattle.lock.specs.State.{threadAt}
 use Rattle.lock.specs.Valid.{Between, Valid}
 use Rattle.lock.specs.declared.State.{State}
 use Rattle.lock.specs.declared.Thread.{Thread}
@@ -44,7 +44,7 @@ module _ (s : State) (t : ThreadNo) (n : NodeNo) (rule : Valid s) (h : step s t 
   here : Between 1 (t .0) (length (s .thread))
   here =
       let b = in-table (s .shared .threads) t (ok .there) in
-      record { from = b .from; to = omega (arith, rule .shared .threads .to, rule .thread-places) }
+      record { from = b .from; to = omega (arith, rule .shared .threads .to, rule .sized .threads) }
 
   now-at : step s t n .state ≡ after s t v n
   now-at = ap (λ (r : Stepped). r .state) (executes s t n ok)
@@ -136,7 +136,7 @@ module _ (s : State) (t : ThreadNo) (n : NodeNo) where
 
 pub complete : Complete step
 complete s t n s′ rule p f =
-    let e = exactly-when s t n (rule .node-places) (rule .thread-places) done .1 (none s t n rule p (asks s t n s′ f)) in
+    let e = exactly-when s t n (rule .sized) done .1 (none s t n rule p (asks s t n s′ f)) in
     let b = here s t n rule e in
     executes s t n (accepted s t n e) ∙ ap (stepped done) (sym (ends s t n (b .from) (b .to) s′ f))
 
@@ -164,7 +164,7 @@ surely false h = absurd (h refl)
 module _ (s : State) (t : ThreadNo) (n : NodeNo) (rule : Valid s) (h : step s t n .answer ≡ done) where
   not-one : NoneApply (conditions s t n)
   not-one =
-      none-apply (conditions s t n) (omega arith) (exactly-when s t n (rule .node-places) (rule .thread-places) done .0 h)
+      none-apply (conditions s t n) (omega arith) (exactly-when s t n (rule .sized) done .0 h)
 
   possible : Possible s t n
   possible =

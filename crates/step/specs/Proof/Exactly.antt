@@ -11,8 +11,8 @@ use lib.ListN.{drop, length}
 use borrow.Author.Tests.{eqb-true, ltb-true, not-false, not-true}
 use Rattle.lines.specs.Lines.{lineAt}
 use Rattle.lock.specs.Judged.{rule-valid, valid-rule}
-use Rattle.lock.specs.State.{places, threadAt}
-use Rattle.lock.specs.Valid.{Between, Valid, valid}
+use Rattle.lock.specs.State.{threadAt}
+use Rattle.lock.specs.Valid.{Between, Sized, Valid, valid}
 use Rattle.lock.specs.declared.State.{State}
 use Rattle.lock.specs.declared.Thread.{Thread}
 use Rattle.number.specs.Refused.{badState, noSuchThread}
@@ -27,14 +27,14 @@ use Rattle.step.specs.Proof.Judges.{judges10, judges11, judges12, judges
 use Rattle.step.specs.Proof.Table.{row-agrees}
 use Rattle.step.specs.Step.{followed, noThread, step, windowOf}
 
-module _ (s : State) (t : ThreadNo) (n : NodeNo) (nodes32 : length (s .node) ≡ places) (threads32 : length (s .thread) ≡ places) where
+module _ (s : State) (t : ThreadNo) (n : NodeNo) (sized : Sized s) where
   abbrev v : Thread
   v = threadAt s t
 
   judges1 : Reflects (badState when not (valid s)) (badState given-when (Valid s → ⊥))
   judges1 = record {
     holds = λ e. ((λ rule. true≢false (sym (rule-valid s rule) ∙ not-true _ e)), refl);
-    fails = λ e broken. broken (valid-rule s nodes32 threads32 (not-false _ e));
+    fails = λ e broken. broken (valid-rule s sized (not-false _ e));
   }
 
   judges5 : Reflects (noSuchThread when noThread (s .shared .threads) t) (noSuchThread given-when (Between 1 (t .0) (s .shared .threads) → ⊥))
@@ -74,7 +74,7 @@ module _ (s : State) (t : ThreadNo) (n : NodeNo) (nodes32 : length (s .node) ≡
 
   judges : AllReflect (tests s t n) (conditions s t n)
   judges =
-      (judges1, λ j1. (judges5, λ j5. judges-line (valid-rule s nodes32 threads32 (not-false _ j1)) (in-table (s .shared .threads) t j5)))
+      (judges1, λ j1. (judges5, λ j5. judges-line (valid-rule s sized (not-false _ j1)) (in-table (s .shared .threads) t j5)))
 
   pub exactly-when : (m : ℕ) → (step s t n .answer ≡ m) ↔ First (conditions s t n) m
   exactly-when m =

@@ -159,11 +159,13 @@ module _ (s : State) (t : ThreadNo) (n : NodeNo) (valid : Valid s) (a : Accepted
       record {
         shared = r .shared;
         node = rw (kept .nodes) (λ j. all-stored (s .node) zeroNode (k .0) (m .node) (NodeRange (s .shared .nodes)) (s .shared .nodes)
-            (omega (arith, valid .node-places)) (rw (kept .nodes) at (r .node)) (λ i. valid .node (node i)) (j .0));
+            (omega (arith, valid .sized .nodes)) (rw (kept .nodes) at (r .node)) (λ i. valid .node (node i)) (j .0));
         thread = rw (kept .nodes, kept .threads) (λ j. all-stored (s .thread) zeroThread (t .0) (m .thread) (ThreadRange (s .shared .nodes)) (s .shared .threads)
-            (omega (arith, valid .thread-places)) (rw (kept .nodes) at (r .thread)) (λ i. valid .thread (thread i)) (j .0));
+            (omega (arith, valid .sized .threads)) (rw (kept .nodes) at (r .thread)) (λ i. valid .thread (thread i)) (j .0));
         past-nodes = rw (kept .nodes) (λ j b. nth-set-other (s .node) (j .0) (k .0) (m .node) zeroNode (omega arith) ∙ valid .past-nodes j b);
         past-threads = rw (kept .threads) (λ j b. nth-set-other (s .thread) (j .0) (t .0) (m .thread) zeroThread (omega arith) ∙ valid .past-threads j b);
-        node-places = length-set-nth (s .node) (k .0) (m .node) ∙ valid .node-places;
-        thread-places = length-set-nth (s .thread) (t .0) (m .thread) ∙ valid .thread-places;
+        sized = record {
+          nodes = length-set-nth (s .node) (k .0) (m .node) ∙ valid .sized .nodes;
+          threads = length-set-nth (s .thread) (t .0) (m .thread) ∙ valid .sized .threads;
+        };
       }
