@@ -53,11 +53,11 @@ number given-when condition = record { number = number; applies = condition }
 abbrev pub conditions : State → ThreadNo → NodeNo → List Condition
 conditions s t n =
     -- 1 | the saved state breaks a rule above
-    badState given-when (Valid s → ⊥)
+    badState given-when (¬ Valid s)
     -- 5 | the event's thread is not 1 to T
-    ∷ noSuchThread given-when (Between 1 (t .0) (s .shared .threads) → ⊥)
+    ∷ noSuchThread given-when (¬ Between 1 (t .0) (s .shared .threads))
     -- 6 | at line 11 the node is not 1 to K; elsewhere it is not 0
-    ∷ wrongNode given-when (((line s t ≡ 11) × (Between 1 (n .0) (s .shared .nodes) → ⊥)) ⊎ ((line s t ≢ 11) × (n .0 ≢ 0)))
+    ∷ wrongNode given-when (((line s t ≡ 11) × (¬ Between 1 (n .0) (s .shared .nodes))) ⊎ ((line s t ≢ 11) × (n .0 ≢ 0)))
     -- 7 | line 11 with entered = 1,000,000
     ∷ noEntryLeft given-when ((line s t ≡ 11) × (entered s ≡ mostEntries))
     -- 8 | line 11 with a node in use
@@ -75,4 +75,4 @@ conditions s t n =
 -- "The first that applies, in this order, is given": m is the number of the first condition that applies, and 0 if none does
 abbrev pub First : List Condition → ℕ → Type 0
 First [] m = m ≡ done
-First (c ∷ cs) m = (c .applies × (m ≡ c .number)) ⊎ ((c .applies → ⊥) × First cs m)
+First (c ∷ cs) m = (c .applies × (m ≡ c .number)) ⊎ ((¬ c .applies) × First cs m)

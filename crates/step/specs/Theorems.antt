@@ -2,13 +2,14 @@
 use mathlib.Core.Logic.{_≢_, _↔_}
 use mathlib.Core.Path.{_≡_}
 use Prim.Native.Nat.{ℕ}
+use Rattle.lock.specs.State.{nodeAt, threadAt}
 use Rattle.lock.specs.Valid.{Sized, Valid}
 use Rattle.lock.specs.declared.State.{State}
 use Rattle.number.specs.OneResult.{only}
 use Rattle.number.specs.Refused.{done}
 use Rattle.number.specs.declared.NodeNo.{NodeNo}
 use Rattle.number.specs.declared.ThreadNo.{ThreadNo}
-use Rattle.step.specs.Conditions.{First, conditions}
+use Rattle.step.specs.Conditions.{First, Follows, conditions}
 use Rattle.step.specs.Proof.Answer
 use Rattle.step.specs.Proof.Against
 use Rattle.step.specs.Proof.Exactly
@@ -31,6 +32,14 @@ exactly-when = Exactly.exactly-when
 -- A refused step leaves the state unchanged, whatever the state, valid or not.
 pub refused-unchanged : (s : State) (t : ThreadNo) (n : NodeNo) → step s t n .answer ≢ done → step s t n .state ≡ s
 refused-unchanged = Answer.unchanged
+
+-- "Nothing else changes in a step": whatever the event, every other thread is as it was ..
+pub others-stay : (s : State) (t : ThreadNo) (n : NodeNo) (q : ThreadNo) → q .0 ≢ t .0 → threadAt (step s t n .state) q ≡ threadAt s q
+others-stay = Against.others-stay
+
+-- .. and so is every node that the thread's line does not follow.
+pub nodes-stay : (s : State) (t : ThreadNo) (n : NodeNo) → Valid s → (k : NodeNo) → ¬ Follows (threadAt s t) k → nodeAt (step s t n .state) k ≡ nodeAt s k
+nodes-stay = Against.nodes-stay
 
 -- An accepted step keeps a valid state valid.
 pub valid-kept : (s : State) (t : ThreadNo) (n : NodeNo) → Valid s → step s t n .answer ≡ done → Valid (step s t n .state)

@@ -13,7 +13,8 @@ use Rattle.acts.specs.Clear.{clear}
 use Rattle.figure.specs.Figure.{Figure, entered, flag, high, line, local, locked, low, my, next}
 use Rattle.figure.specs.Figure.Figure.{line11, line12, line13, line14, line15, line16, line17, line18, line19, line20, line21, line22, line23, line24, line25, line26, line27, line28, line29}
 use Rattle.lines.specs.Lines.{lineAt}
-use Rattle.lock.specs.State.{threadAt}
+use Rattle.lock.specs.Laws.{nth-set-other}
+use Rattle.lock.specs.State.{nodeAt, threadAt, zeroNode, zeroThread}
 use Rattle.lock.specs.Valid.{Between, Valid}
 use Rattle.lock.specs.declared.State.{State}
 use Rattle.lock.specs.declared.Thread.{Thread}
@@ -21,13 +22,15 @@ use Rattle.number.specs.Refused.{done}
 use Rattle.number.specs.Sizes.{lastPlace, mostEntries}
 use Rattle.number.specs.declared.NodeNo.{NodeNo}
 use Rattle.number.specs.declared.ThreadNo.{ThreadNo}
-use Rattle.step.specs.Conditions.{Condition, First, Waits, among, conditions}
+use Rattle.step.specs.Conditions.{Condition, First, Follows, Waits, among, conditions}
 use Rattle.step.specs.Conditions.Waits.{at16, at19, at23}
 use Rattle.step.specs.Demands.{Complete, Possible, Sound, Tool}
-use Rattle.step.specs.Proof.Answer.{Accepted, accepted, executes, in-table}
+use Rattle.step.specs.Proof.Answer.{Accepted, accepted, executes, in-table, unchanged}
 use Rattle.step.specs.Proof.Exactly.{exactly-when}
+use Rattle.step.specs.Proof.Judges.{follows}
 use Rattle.step.specs.Proof.Kept.{after-valid}
 use Rattle.step.specs.Proof.Leads.{Leads, ends, leads}
+use Rattle.step.specs.Proof.Table.{row-agrees}
 use Rattle.step.specs.Step.{after, followed, step, stepped, windowOf}
 use Rattle.step.specs.declared.Stepped.{Stepped}
 use Rattle.word.specs.Word.{inUse}
@@ -186,3 +189,39 @@ module _ (s : State) (t : ThreadNo) (n : NodeNo) (rule : Valid s) (h : step s t 
 pub complete-same : (tool : Tool) → Complete tool → (s : State) (t : ThreadNo) (n : NodeNo) → Valid s → step s t n .answer ≡ done → tool s t n ≡ step s t n
 complete-same tool c s t n rule h =
     c s t n (step s t n .state) rule (possible s t n rule h) (sound s t n rule h) ∙ ap (λ (a : ℕ). stepped a (step s t n .state)) (sym h)
+
+-- ---- nothing else changes
+
+-- two node numbers that name the same node
+same-node : {j k : NodeNo} → k .0 ≡ j .0 → j ≡ k
+same-node {j} {k} e = λ i. record { 0 = sym e i }
+
+-- what is so of the state after the line, and of the state itself, is so of the state after the event
+either-way : (s : State) (t : ThreadNo) (n : NodeNo) (P : State → Type 0) → (Accepted s t n → P (after s t (threadAt s t) n)) → P s → P (step s t n .state)
+either-way s t n P moved same = go (ℕ-discrete (step s t n .answer) done)
+  where
+    go : Dec (step s t n .answer ≡ done) → P (step s t n .state)
+    go (yes h) = let a = accepted s t n h in rw (ap (λ (r : Stepped). r .state) (executes s t n a)) (moved a)
+    go (no h) = rw (unchanged s t n h) same
+
+pub others-stay : (s : State) (t : ThreadNo) (n : NodeNo) (q : ThreadNo) → q .0 ≢ t .0 → threadAt (step s t n .state) q ≡ threadAt s q
+others-stay s t n q h =
+    either-way s t n (λ (s′ : State). threadAt s′ q ≡ threadAt s q) (λ a. nth-set-other (s .thread) (q .0) (t .0) _ zeroThread h) refl
+
+module _ (s : State) (t : ThreadNo) (n : NodeNo) (rule : Valid s) (k : NodeNo) (apart : ¬ Follows (threadAt s t) k) where
+  -- a number at which nothing is followed is 0, or is not that of the node which the row names
+  elsewhere : Accepted s t n → k .0 ≡ followed (threadAt s t) .0 → k .0 ≡ 0
+  elsewhere a e = by-cases (ℕ-discrete (k .0) 0) (λ z. z) (λ z.
+      let v = threadAt s t in
+      let b = in-table (s .shared .threads) t (a .there) in
+      let l = rule .thread t (b .from) (b .to) .line in
+      let f = follows v (lineAt (v .line) .follow) (row-agrees (v .line) (l .from) (l .to) .1) (λ q. z (e ∙ q)) in
+      absurd (apart (subst (Follows v) (same-node e) f)))
+
+  pub nodes-stay : nodeAt (step s t n .state) k ≡ nodeAt s k
+  nodes-stay =
+      either-way s t n (λ (s′ : State). nodeAt s′ k ≡ nodeAt s k) (λ a. stays a (ℕ-discrete (k .0) (followed (threadAt s t) .0))) refl
+    where
+      stays : Accepted s t n → Dec (k .0 ≡ followed (threadAt s t) .0) → nodeAt (after s t (threadAt s t) n) k ≡ nodeAt s k
+      stays a (yes e) = rw (elsewhere a e)
+      stays a (no h) = nth-set-other (s .node) (k .0) (followed (threadAt s t) .0) _ zeroNode h

@@ -147,7 +147,7 @@ module _ (v : Thread) where
   some Succ h z k (succ-at a b e) = λ q. b (ap (λ (x : NodeNo). x .0) (sym e) ∙ q)
 
   -- the node that the row names is followed, if it is not 0
-  follows : (f : Follow) → T (followsAt f (v .line)) → followedBy f v .0 ≢ 0 → Follows v (followedBy f v)
+  pub follows : (f : Follow) → T (followsAt f (v .line)) → followedBy f v .0 ≢ 0 → Follows v (followedBy f v)
   follows NoNode h z = absurd (z refl)
   follows My h z = my-at h refl
   follows Prev h z = prev-at (eqb→eq (v .line) 18 h) refl
