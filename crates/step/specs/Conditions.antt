@@ -72,6 +72,11 @@ conditions s t n =
     ∷ mustWait given-when Waits s t
     ∷ []
 
+-- none of them applies
+abbrev pub NoneApply : List Condition → Type 0
+NoneApply [] = Unit {0}
+NoneApply (c ∷ cs) = (¬ c .applies) × NoneApply cs
+
 -- "The first that applies, in this order, is given": m is the number of the first condition that applies, and 0 if none does
 abbrev pub First : List Condition → ℕ → Type 0
 First [] m = m ≡ done

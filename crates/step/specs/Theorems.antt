@@ -1,4 +1,5 @@
 -- What a step promises: the theorems that a buyer needs, each under a plain sentence. The arguments are in Proof. Assumes nothing.
+use mathlib.Core.List.{List, _∷_, _++_}
 use mathlib.Core.Logic.{_≢_, _↔_}
 use mathlib.Core.Path.{_≡_}
 use Prim.Native.Nat.{ℕ}
@@ -9,7 +10,7 @@ use Rattle.number.specs.OneResult.{only}
 use Rattle.number.specs.Refused.{done}
 use Rattle.number.specs.declared.NodeNo.{NodeNo}
 use Rattle.number.specs.declared.ThreadNo.{ThreadNo}
-use Rattle.step.specs.Conditions.{First, Follows, conditions}
+use Rattle.step.specs.Conditions.{Condition, First, Follows, NoneApply, conditions}
 use Rattle.step.specs.Proof.Answer
 use Rattle.step.specs.Proof.Against
 use Rattle.step.specs.Proof.Exactly
@@ -28,6 +29,15 @@ complete = Against.complete
 -- The answer is the number of the first condition of document 01 that applies, and 0 exactly when none does.
 pub exactly-when : (s : State) (t : ThreadNo) (n : NodeNo) → Sized s → (m : ℕ) → (step s t n .answer ≡ m) ↔ First (conditions s t n) m
 exactly-when = Exactly.exactly-when
+
+-- So 0 is given exactly when no condition applies ..
+pub accepted-exactly : (s : State) (t : ThreadNo) (n : NodeNo) → Sized s → (step s t n .answer ≡ done) ↔ NoneApply (conditions s t n)
+accepted-exactly = Exactly.accepted-exactly
+
+-- .. and each number exactly when its condition applies and none before it in the table does.
+pub given-exactly : (s : State) (t : ThreadNo) (n : NodeNo) → Sized s → (before : List Condition) (c : Condition) (later : List Condition)
+    → conditions s t n ≡ before ++ c ∷ later → (step s t n .answer ≡ c .number) ↔ (NoneApply before × c .applies)
+given-exactly = Exactly.given-exactly
 
 -- A refused step leaves the state unchanged, whatever the state, valid or not.
 pub refused-unchanged : (s : State) (t : ThreadNo) (n : NodeNo) → step s t n .answer ≢ done → step s t n .state ≡ s

@@ -22,11 +22,11 @@ use Rattle.number.specs.Refused.{done}
 use Rattle.number.specs.Sizes.{lastPlace, mostEntries}
 use Rattle.number.specs.declared.NodeNo.{NodeNo}
 use Rattle.number.specs.declared.ThreadNo.{ThreadNo}
-use Rattle.step.specs.Conditions.{Condition, First, Follows, Waits, among, conditions}
+use Rattle.step.specs.Conditions.{Follows, NoneApply, Waits, among, conditions}
 use Rattle.step.specs.Conditions.Waits.{at16, at19, at23}
 use Rattle.step.specs.Demands.{Complete, Possible, Sound, Tool}
 use Rattle.step.specs.Proof.Answer.{Accepted, accepted, executes, in-table, unchanged}
-use Rattle.step.specs.Proof.Exactly.{exactly-when}
+use Rattle.step.specs.Proof.Exactly.{accepted-exactly}
 use Rattle.step.specs.Proof.Judges.{follows}
 use Rattle.step.specs.Proof.Kept.{after-valid}
 use Rattle.step.specs.Proof.Leads.{Leads, ends, leads}
@@ -109,56 +109,40 @@ module _ (s : State) (t : ThreadNo) (n : NodeNo) where
   goes a (at23 e h) = a .linked e h
 
   -- no condition applies to a possible step that the figure allows
-  none : Valid s → Possible s t n → Asks → First (conditions s t n) done
-  none rule p a =
-      inr (
-        (λ h. h rule),
-        inr (
-          (λ h. h (p .thread)),
-          inr (
-            ⊎-elim (λ h. let some = a .chosen (h .0) .0 in h .1 (record { from = omega (arith, some); to = p .within (h .0) })) (λ h. h .1 (p .named (h .0))),
-            inr (
-              (λ h. omega (arith, h .1, p .entries (h .0))),
-              inr (
-                (λ h. true≢false (sym (h .1) ∙ a .chosen (h .0) .1)),
-                inr (
-                  (λ h. p .followed (h .0) (h .1) .0 (h .2)),
-                  inr (
-                    (λ h. true≢false (sym (p .followed (h .0) (h .1) .1) ∙ h .2)),
-                    inr (
-                      ⊎-elim (λ h. omega (arith, h .1, p .high-places (h .0))) (λ h. omega (arith, h .1, p .low-places (h .0))),
-                      inr (goes a, refl),
-                    ),
-                  ),
+  none : Valid s → Possible s t n → Asks → NoneApply (conditions s t n)
+  none rule p a = (
+    (λ h. h rule),
+    (
+      (λ h. h (p .thread)),
+      (
+        ⊎-elim (λ h. let some = a .chosen (h .0) .0 in h .1 (record { from = omega (arith, some); to = p .within (h .0) })) (λ h. h .1 (p .named (h .0))),
+        (
+          (λ h. omega (arith, h .1, p .entries (h .0))),
+          (
+            (λ h. true≢false (sym (h .1) ∙ a .chosen (h .0) .1)),
+            (
+              (λ h. p .followed (h .0) (h .1) .0 (h .2)),
+              (
+                (λ h. true≢false (sym (p .followed (h .0) (h .1) .1) ∙ h .2)),
+                (
+                  ⊎-elim (λ h. omega (arith, h .1, p .high-places (h .0))) (λ h. omega (arith, h .1, p .low-places (h .0))),
+                  (goes a, tt),
                 ),
               ),
             ),
           ),
         ),
-      )
+      ),
+    ),
+  )
 
 pub complete : Complete step
 complete s t n s′ rule p f =
-    let e = exactly-when s t n (rule .sized) done .1 (none s t n rule p (asks s t n s′ f)) in
+    let e = accepted-exactly s t n (rule .sized) .1 (none s t n rule p (asks s t n s′ f)) in
     let b = here s t n rule e in
     executes s t n (accepted s t n e) ∙ ap (stepped done) (sym (ends s t n (b .from) (b .to) s′ f))
 
 -- ---- an accepted step is possible
-
--- none of the conditions applies
-abbrev NoneApply : List Condition → Type 0
-NoneApply [] = Unit {0}
-NoneApply (c ∷ cs) = (c .applies → ⊥) × NoneApply cs
-
--- every number is that of a refusal
-abbrev Refusing : List Condition → Type 0
-Refusing [] = Unit {0}
-Refusing (c ∷ cs) = (0 < c .number) × Refusing cs
-
-none-apply : (cs : List Condition) → Refusing cs → First cs done → NoneApply cs
-none-apply [] r f = tt
-none-apply (c ∷ cs) r (inl h) = absurd (omega (arith, h .1))
-none-apply (c ∷ cs) r (inr h) = (h .0, none-apply cs (r .1) (h .1))
 
 surely : (b : Bool) → (b ≡ false → ⊥) → b ≡ true
 surely true h = refl
@@ -167,7 +151,7 @@ surely false h = absurd (h refl)
 module _ (s : State) (t : ThreadNo) (n : NodeNo) (rule : Valid s) (h : step s t n .answer ≡ done) where
   not-one : NoneApply (conditions s t n)
   not-one =
-      none-apply (conditions s t n) (omega arith) (exactly-when s t n (rule .sized) done .0 h)
+      accepted-exactly s t n (rule .sized) .0 h
 
   possible : Possible s t n
   possible =

@@ -1,7 +1,7 @@
 -- The answer of a step is the number of the first condition that applies: each test of the step says what its condition says (Judges), and the
 -- answer is that of the first test that holds (Answer). Assumes nothing.
 use mathlib.Core.Bool.{Bool, false, not, true, true≢false, _||_}
-use mathlib.Core.List.{List, [], _∷_}
+use mathlib.Core.List.{List, [], _∷_, _++_}
 use mathlib.Core.Logic.{_≢_, _⊎_, _↔_, inl, inr}
 use mathlib.Core.Path.{_≡_, refl, subst, sym, _∙_}
 use Prim.Native.Nat.{ℕ, _<_, _≤_}
@@ -15,14 +15,14 @@ use Rattle.lock.specs.State.{threadAt}
 use Rattle.lock.specs.Valid.{Between, Sized, Valid, valid}
 use Rattle.lock.specs.declared.State.{State}
 use Rattle.lock.specs.declared.Thread.{Thread}
-use Rattle.number.specs.Refused.{badState, noSuchThread}
+use Rattle.number.specs.Refused.{badState, done, noSuchThread}
 use Rattle.number.specs.Tests.{either-holds}
 use Rattle.number.specs.declared.NodeNo.{NodeNo}
 use Rattle.number.specs.declared.ThreadNo.{ThreadNo}
 use Rattle.refusals.specs.Refusals.{_when_, counts, refusals}
-use Rattle.step.specs.Conditions.{Condition, First, _given-when_, conditions}
+use Rattle.step.specs.Conditions.{Condition, First, NoneApply, _given-when_, conditions}
 use Rattle.step.specs.Proof.Answer.{answer-first, in-table, tests}
-use Rattle.step.specs.Proof.FirstThat.{AllReflect, Reflects, first-of, first-one}
+use Rattle.step.specs.Proof.FirstThat.{AllReflect, Reflects, Rising, first-none, first-of, first-one, first-this}
 use Rattle.step.specs.Proof.Judges.{judges10, judges11, judges12, judges6, judges7, judges8, judges9}
 use Rattle.step.specs.Proof.Table.{row-agrees}
 use Rattle.step.specs.Step.{followed, noThread, step, windowOf}
@@ -80,3 +80,22 @@ module _ (s : State) (t : ThreadNo) (n : NodeNo) (sized : Sized s) where
   exactly-when m =
       let f = first-of (tests s t n) (conditions s t n) judges in
       ((λ e. subst (First (conditions s t n)) (sym (answer-first s t n) ∙ e) f), λ g. answer-first s t n ∙ first-one (conditions s t n) _ m f g)
+
+  -- the numbers of the table rise, so each tells its own condition
+  rising : Rising done (conditions s t n)
+  rising = omega arith
+
+  pub accepted-exactly : (step s t n .answer ≡ done) ↔ NoneApply (conditions s t n)
+  accepted-exactly =
+      let e = exactly-when done in
+      let f = first-none (conditions s t n) rising in
+      ((λ h. f .0 (e .0 h)), λ h. e .1 (f .1 h))
+
+  pub given-exactly : (before : List Condition) (c : Condition) (later : List Condition) → conditions s t n ≡ before ++ c ∷ later
+      → (step s t n .answer ≡ c .number) ↔ (NoneApply before × c .applies)
+  given-exactly before c later split =
+      let e = exactly-when (c .number) in
+      let f = first-this done before c later (subst (Rising done) split rising) in (
+        (λ h. f .0 (subst (λ (cs : List Condition). First cs (c .number)) split (e .0 h))),
+        λ h. e .1 (subst (λ (cs : List Condition). First cs (c .number)) (sym split) (f .1 h)),
+      )

@@ -1,12 +1,14 @@
 -- The first that applies, by tests and by conditions: where each test says what its condition says, as long as no test before it holds, the number
 -- that the tests give is that of the first condition that applies, and no other number is. Assumes nothing.
 use mathlib.Core.Bool.{Bool, cond, false, true, true≢false}
-use mathlib.Core.List.{List, [], _∷_}
-use mathlib.Core.Logic.{_⊎_, inl, inr}
+use mathlib.Core.List.{List, [], _∷_, _++_}
+use mathlib.Core.Logic.{_⊎_, _↔_, inl, inr}
 use mathlib.Core.Path.{_≡_, refl, sym, _∙_}
-use Prim.Native.Nat.{ℕ}
+use Prim.Native.Nat.{ℕ, _≤_, _<_}
+use native.Mathlib.Omega.{arith}
+use Rattle.number.specs.Refused.{done}
 use Rattle.refusals.specs.Refusals.{Refusal, firstOf}
-use Rattle.step.specs.Conditions.{Condition, First}
+use Rattle.step.specs.Conditions.{Condition, First, NoneApply}
 
 -- the test says what the condition says
 pub record Reflects (r : Refusal) (c : Condition) : Type 0 where
@@ -39,3 +41,45 @@ first-one (c ∷ cs) m m′ (inr h) (inr h′) = first-one cs m m′ (h .1) (h�
 -- a test that never holds says what a condition that never applies says
 pub never : (number : ℕ) (c : Condition) → (c .applies → ⊥) → Reflects (record { number = number; applies = false }) c
 never number c h = record { holds = λ e. absurd (true≢false (sym e)); fails = λ e. h }
+
+-- ---- numbers that are all different: each condition's own number tells that it applies and none before it does
+
+-- the numbers rise from above m
+abbrev pub Rising : ℕ → List Condition → Type 0
+Rising m [] = Unit {0}
+Rising m (c ∷ cs) = (m < c .number) × Rising (c .number) cs
+
+-- a number at or below the first one is given by none of the conditions
+not-below : (m : ℕ) (cs : List Condition) (k : ℕ) → Rising m cs → First cs k → k ≤ m → (k ≡ done) × NoneApply cs
+not-below m [] k r f h = (f, tt)
+not-below m (c ∷ cs) k r (inl f) h = absurd (omega (arith, f .1, r .0))
+not-below m (c ∷ cs) k r (inr f) h =
+    let later = not-below (c .number) cs k (r .1) (f .1) (omega (arith, r .0)) in
+    (later .0, (f .0, later .1))
+
+none-first : (cs : List Condition) → NoneApply cs → First cs done
+none-first [] h = refl
+none-first (c ∷ cs) h = inr (h .0, none-first cs (h .1))
+
+-- 0 is given exactly when none applies
+pub first-none : (cs : List Condition) → Rising done cs → First cs done ↔ NoneApply cs
+first-none cs r = ((λ f. not-below done cs done r f (omega arith) .1), none-first cs)
+
+-- a condition's number is given exactly when it applies and none before it does
+pub first-this : (m : ℕ) (before : List Condition) (c : Condition) (later : List Condition) → Rising m (before ++ c ∷ later)
+    → First (before ++ c ∷ later) (c .number) ↔ (NoneApply before × c .applies)
+first-this m before c later r = (to m before r, from before)
+  where
+    above : (m : ℕ) (before : List Condition) → Rising m (before ++ c ∷ later) → m < c .number
+    above m [] r = r .0
+    above m (b ∷ bs) r = omega (arith, r .0, above (b .number) bs (r .1))
+
+    to : (m : ℕ) (before : List Condition) → Rising m (before ++ c ∷ later) → First (before ++ c ∷ later) (c .number) → NoneApply before × c .applies
+    to m [] r (inl f) = (tt, f .0)
+    to m [] r (inr f) = absurd (omega (arith, r .0, not-below (c .number) later (c .number) (r .1) (f .1) (omega arith) .0))
+    to m (b ∷ bs) r (inl f) = absurd (omega (arith, f .1, above (b .number) bs (r .1)))
+    to m (b ∷ bs) r (inr f) = let rest = to (b .number) bs (r .1) (f .1) in ((f .0, rest .0), rest .1)
+
+    from : (before : List Condition) → NoneApply before × c .applies → First (before ++ c ∷ later) (c .number)
+    from [] h = inl (h .1, refl)
+    from (b ∷ bs) h = inr (h .0 .0, from bs (h .0 .1, h .1))
