@@ -17,8 +17,8 @@ use Rattle.number.specs.Numbers.{node, place, thread}
 use Rattle.refusals.specs.Refusals.{refusal}
 use Rattle.step.specs.Step.{advance, step}
 use Rattle.word.specs.Word.{aloneIn, inUse, putIn, takeOut}
-use Rattle.cases.specs.Case.{Case, _is_, _under_gives_, asExpected, begins, byHand, entered, equal, flag, high, line, locked, low, mess, my, next, nxmy, passes, passesAll, prev, slot, succ, tail, used}
-use Rattle.cases.specs.Events.{Event, _times_, after, answers, event, linesDone}
+use Rattle.cases.specs.Case.{Case, _is_, _under_gives_, byHand, entered, flag, high, line, locked, low, mess, my, next, nxmy, passes, passesAll, prev, slot, succ, tail, used}
+use Rattle.cases.specs.Events.{Event, _times_, event}
 
 -- so many answers 0
 abbrev pub zeros : ℕ → List ℕ
@@ -62,6 +62,7 @@ p1 =
     ∷ []
 
 -- ---- P2 (1,1) and then (1,0) fourteen times: all 0; line 11, low = high = 2, entered 1, flag 1, tail 0, status 1.
+
 -- its events
 abbrev pub passage : List Event
 passage = event 1 1 ∷ (14 times event 1 0)
@@ -109,6 +110,7 @@ p5 =
 
 -- ---- P6 thread 1 through 14 with node 1, then thread 2 through 14 with node 2: prev of thread 2 is 1, slots 1 and 2, tail 2, high 3.
 -- Thread 2 does 15 and 18; its next event gives 12.
+
 -- the events of its first sentence, and the lines that they execute
 abbrev pub bothThrough14 : List Event
 bothThrough14 = event 1 1 ∷ (3 times event 1 0) ++ event 2 2 ∷ (3 times event 2 0)
@@ -158,7 +160,8 @@ p7 =
     ∷ []
 
 -- ---- P8 P6 to its end, then thread 1 runs to the end of 29: locked(2) = 0, flag 0, low 2; thread 2's next event gives 0.
--- (By the table of lines thread 1 goes from 21 to 25 here, as its succ is node 2.)
+
+-- the events up to the end of 29, and the lines that they execute: by the table, thread 1 goes from 21 to 25 here, as its succ is node 2
 abbrev pub thread1ToTheEnd : List Event
 thread1ToTheEnd = bothThrough14 ++ (3 times event 2 0) ++ (10 times event 1 0)
 
@@ -188,7 +191,8 @@ unfoldable pub p9 : List Case
 p9 = fresh 2 2 under take 12 passage ++ event 2 1 ∷ [] gives zeros 13 ∷ []
 
 -- ---- P10 thread 1 at 12 in an otherwise fresh state: my 0 gives 9, my 1 gives 10.
--- (Away from line 11 the event's node is 0.)
+
+-- the event is (1,0): away from line 11 the node is 0
 abbrev pub thread1At12 : ℕ → State
 thread1At12 my = freshState 2 2 ⟨thread thread 1 ≔ idle ⟨line≔ 12 ⟩ ⟨my≔ node my ⟩ ⟩
 
@@ -234,6 +238,6 @@ unfoldable pub cases : List Case
 cases = p1 ++ p2 ++ p3 ++ p4 ++ p5 ++ p6 ++ p7 ++ p8 ++ p9 ++ p10 ++ p11 ++ p12
 
 pub all-cases-hold : passesAll step cases ≡ true
-unfolding cases p1 p2 alone p3 p4 p5 p6 queued p7 p8 p9 p10 p11 p12 passesAll passes equal begins asExpected answers after linesDone
+unfolding cases p1 p2 alone p3 p4 p5 p6 queued p7 p8 p9 p10 p11 p12 passesAll passes
     fresh idleTo valid sharedValid nodesValid threadsValid lineAt inUse aloneIn putIn takeOut refusal perform moved advance step
 all-cases-hold = refl

@@ -27,7 +27,7 @@ pub record Accepted (c : Case) : Type 0 where
   pub passed : passes step c ≡ true
 
 module _ (tool : Tool) (is-complete : Complete tool) where
-  -- So does a complete tool, over events that the step accepts one after the other from a valid state.
+  -- A complete tool has the step's run, over events that the step accepts one after the other from a valid state.
   pub same-run : (s : State) → Valid s → (es : List Event) → acceptsAll step s es ≡ true → SameRun tool s es
   unfolding answers linesDone after acceptsAll
   same-run s rule [] h = record { answers = refl; lines = refl; reached = refl }

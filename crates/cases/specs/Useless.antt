@@ -48,7 +48,7 @@ standsStill s t n = stepped done s
 abbrev pub passageOf : ThreadNo → NodeNo → List Event
 passageOf t n = record { thread = t; node = n } ∷ (14 times record { thread = t; node = none })
 
--- "one that does the whole passage at line 11 and then only moves line numbers": as the table says for a thread that is alone
+-- "one that does the whole passage at line 11 and then only moves line numbers": as the table of lines says for a thread that is alone
 unfoldable pub wholeAtOnce : Tool
 wholeAtOnce s t n =
     let now = threadAt s t .line in

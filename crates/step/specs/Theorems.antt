@@ -59,6 +59,6 @@ valid-kept = Against.valid-kept
 pub step-one-result : (s : State) (t : ThreadNo) (n : NodeNo) (r r′ : Stepped) → r ≡ step s t n → r′ ≡ step s t n → r ≡ r′
 step-one-result s t n r r′ = only
 
--- A complete tool does what our step does, wherever our step accepts: demand 2 leaves no second tool.
+-- A complete tool does what our step does, wherever our step accepts.
 pub complete-same : (tool : Tool) → Complete tool → (s : State) (t : ThreadNo) (n : NodeNo) → Valid s → step s t n .answer ≡ done → tool s t n ≡ step s t n
 complete-same = Against.complete-same
