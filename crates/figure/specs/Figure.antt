@@ -7,10 +7,10 @@
 use mathlib.Core.Bool.{Bool, cond, false}
 use mathlib.Core.Logic.{_≢_}
 use mathlib.Core.Path.{_≡_}
-use Prim.Native.Nat.{ℕ, _+_}
+use Prim.Native.Nat.{ℕ, _+_, _≤_}
 use Rattle.lock.specs.State.{_⟨entered≔_⟩, _⟨flag≔_⟩, _⟨high≔_⟩, _⟨line≔_⟩, _⟨locked≔_⟩, _⟨low≔_⟩, _⟨mess≔_⟩, _⟨my≔_⟩, _⟨next≔_⟩, _⟨node_≔_⟩, _⟨nxmy≔_⟩, _⟨prev≔_⟩, _⟨shared≔_⟩, _⟨slot≔_⟩, _⟨succ≔_⟩, _⟨tail≔_⟩, _⟨thread_≔_⟩, _⟨used≔_⟩, nodeAt, threadAt}
 use Rattle.lock.specs.declared.State.{State}
-use Rattle.number.specs.Numbers.{behind, isNone, none, same}
+use Rattle.number.specs.Numbers.{behind, isNone, none, place, same}
 use Rattle.number.specs.declared.NodeNo.{NodeNo}
 use Rattle.number.specs.declared.Place.{Place}
 use Rattle.number.specs.declared.ThreadNo.{ThreadNo}
@@ -122,6 +122,16 @@ s ⟪nxmy p ≔ x ⟫ = s ⟨thread p ≔ threadAt s p ⟨nxmy≔ x ⟩ ⟩
 
 abbrev pub _⟪slot_≔_⟫ : State → ThreadNo → Place → State
 s ⟪slot p ≔ x ⟫ = s ⟨thread p ≔ threadAt s p ⟨slot≔ x ⟩ ⟩
+
+-- ---- initially: flag = true ∧ tail = ⊥ ∧ local = {⊥} ∧ low = high = 1 ∧ ∀ q ∈ thread : pc = 11 ∧ slot = 0
+pub record Initially (s : State) : Type 0 where
+  pub raised : flag s ≡ 1
+  pub no-tail : tail s ≡ none
+  pub none-used : (k : NodeNo) → inUse (local s) k ≡ false
+  pub lowest : low s ≡ place 1
+  pub highest : high s ≡ place 1
+  pub idle : (q : ThreadNo) → 1 ≤ q .0 → q .0 ≤ s .shared .threads → line s q ≡ 11
+  pub no-slot : (q : ThreadNo) → 1 ≤ q .0 → q .0 ≤ s .shared .threads → slot s q ≡ place 0
 
 -- ---- loop of thread p
 pub data Figure (p : ThreadNo) (n : NodeNo) (s s′ : State) : Type 0 where

@@ -1,6 +1,6 @@
 -- The test of a state and the rule that a state is held to agree: `valid-rule` and `rule-valid`. `x-rule` leads from a test to the rule, `rule-x` back.
 -- Each part of the test is a list of tests, and each of these stands for one fact of the rule. Of a table one law each way, for any element, turns the
--- test of all its places into facts about its numbers. Rests on Tests and on the laws of the word. Assumes nothing.
+-- test of all its places into facts about its numbers. Rests on Tests (crate `number`) and on the laws of the word. Assumes nothing.
 use mathlib.Core.Bool.{Bool, true, _&&_}
 use mathlib.Core.List.{List, [], _∷_}
 use mathlib.Core.Path.{_≡_, ap, refl}

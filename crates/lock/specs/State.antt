@@ -1,5 +1,8 @@
--- Document 01, "The state": its parts, what stands at a number, and the state with one part changed. "Nothing else changes" is said here, once:
--- each change below names one number and keeps all the others. Laws.antt has the laws by which proofs use it. Assumes nothing.
+-- Document 01, "The state": "Shared: flag, tail, mess, low, high, entered, and the set `local` without ⊥. Mess is one number for all threads, as in
+-- the figure. The nodes in use are one 32-bit word, bit k-1 for node k .. Each node has next and locked. Each thread has its line, my, prev, succ,
+-- nxmy and slot." These parts are the structs of src/lib.rt, which the prover reads as the records Shared (with T as `threads`, K as `nodes` and the
+-- word as `used`), Node, Thread and State. Here: zeros, what stands at a number, and the state with one part changed. "Nothing else changes in a
+-- step" is said here, once: each change names one number and keeps all the others. Laws.antt has the laws by which proofs use it. Assumes nothing.
 use mathlib.Core.List.{List}
 use Prim.Native.Nat.{ℕ, zero, suc}
 use lib.ListN.{getD, replicate, set}

@@ -18,11 +18,13 @@ use number::NodeNo;
 use number::Place;
 use number::ThreadNo;
 
+// A queue node.
 pub struct Node {
     pub next: NodeNo,
     pub locked: u8,
 }
 
+// A thread: the line that it is to execute next, and its own variables.
 pub struct Thread {
     pub line: u8,
     pub my: NodeNo,
@@ -32,7 +34,7 @@ pub struct Thread {
     pub slot: Place,
 }
 
-// `threads` is T and `nodes` is K; `used` is the word of the nodes in use.
+// The shared numbers: `threads` is T and `nodes` is K; `used` is the word of the nodes in use, the set `local` without ⊥.
 pub struct Shared {
     pub threads: u8,
     pub nodes: u8,
@@ -52,7 +54,7 @@ pub struct State {
     pub thread: [Thread; MOST_THREADS as usize],
 }
 
-// A fresh state, or the refusal and a state with 0 everywhere.
+// What a call that makes a state gives: 0 and the state, or the refusal and a state with 0 everywhere.
 pub struct Opened {
     pub number: u8,
     pub state: State,
