@@ -1,15 +1,17 @@
 -- Document 01, "The nineteen lines", the column "what it does": one definition for each thing that a line does, on the line's window, under the
 -- rows that do it, in the order 11 to 29. "Nothing else changes in a step": each keeps all that it does not name. The line numbers stand in the
 -- table (Lines, crate `lines`). Assumes nothing.
-use mathlib.Core.Bool.{Bool, cond}
+use mathlib.Core.Bool.{cond}
 use Prim.Native.Nat.{ℕ, _+_, _<_}
 use lib.Dec.{eqb}
 use Rattle.lines.specs.Lines.{nextLine, window}
 use Rattle.lines.specs.declared.Act.{Act}
-use Rattle.lines.specs.declared.Act.the-variants.{Choose, ClearNext, CloseTail, Exchange, LinkPrev, LowerFlag, PassOn, ReadNext, Release, SendMess, SetLocked, Stay, TakeMess}
+use Rattle.lines.specs.declared.Act.the-variants.{Choose, ClearNext, CloseTail, Exchange, LinkPrev, LowerFlag, PassOn, ReadNext, Release, SendMess}
+use Rattle.lines.specs.declared.Act.the-variants.{SetLocked, Stay, TakeMess}
 use Rattle.lines.specs.declared.Line.{Line}
 use Rattle.lines.specs.declared.Window.{Window}
-use Rattle.lock.specs.State.{_⟨entered≔_⟩, _⟨flag≔_⟩, _⟨high≔_⟩, _⟨line≔_⟩, _⟨locked≔_⟩, _⟨low≔_⟩, _⟨mess≔_⟩, _⟨my≔_⟩, _⟨next≔_⟩, _⟨nxmy≔_⟩, _⟨prev≔_⟩, _⟨slot≔_⟩, _⟨succ≔_⟩, _⟨tail≔_⟩, _⟨used≔_⟩}
+use Rattle.lock.specs.State.{_⟨entered≔_⟩, _⟨flag≔_⟩, _⟨high≔_⟩, _⟨line≔_⟩, _⟨locked≔_⟩, _⟨low≔_⟩, _⟨mess≔_⟩, _⟨my≔_⟩, _⟨next≔_⟩, _⟨nxmy≔_⟩}
+use Rattle.lock.specs.State.{_⟨prev≔_⟩, _⟨slot≔_⟩, _⟨succ≔_⟩, _⟨tail≔_⟩, _⟨used≔_⟩}
 use Rattle.number.specs.Numbers.{behind, isNone, none, same}
 use Rattle.number.specs.Refused.{done}
 use Rattle.number.specs.Sizes.{lastPlace, mostEntries}

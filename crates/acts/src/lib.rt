@@ -2,7 +2,9 @@
 // the step over bytes and every row of steps go through `tell`. Rests on `refusals` and the crates below it.
 ghost use Prim.Native.Nat.{_<_};
 ghost use mathlib.Core.Path.{_≡_};
-ghost use Rattle.acts.specs.Acts.{Ready, choose as chooseOf, clearNext, closeTail, exchange as exchangeOf, linkPrev, lowerFlag, moved as movedOf, passOn, perform as performOf, readNext, release as releaseOf, sendMess, setLocked, takeMess, tell as tellOf};
+ghost use Rattle.acts.specs.Acts.{Ready, choose as chooseOf, clearNext, closeTail, exchange as exchangeOf, linkPrev, lowerFlag};
+ghost use Rattle.acts.specs.Acts.{moved as movedOf, passOn, perform as performOf, readNext, release as releaseOf, sendMess, setLocked};
+ghost use Rattle.acts.specs.Acts.{takeMess, tell as tellOf};
 ghost use Rattle.number.specs.Sizes.{lastPlace, mostEntries};
 use lines::Act;
 use lines::Line;

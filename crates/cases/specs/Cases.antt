@@ -17,7 +17,8 @@ use Rattle.number.specs.Numbers.{node, place, thread}
 use Rattle.refusals.specs.Refusals.{refusal}
 use Rattle.step.specs.Step.{advance, step}
 use Rattle.word.specs.Word.{aloneIn, inUse, putIn, takeOut}
-use Rattle.cases.specs.Case.{Case, _is_, _under_gives_, byHand, entered, flag, high, line, locked, low, mess, my, next, nxmy, passes, passesAll, prev, slot, succ, tail, used}
+use Rattle.cases.specs.Case.{Case, _is_, _under_gives_, byHand, entered, flag, high, line, locked, low, mess, my, next, nxmy, passes, passesAll}
+use Rattle.cases.specs.Case.{prev, slot, succ, tail, used}
 use Rattle.cases.specs.Events.{Event, _times_, event}
 
 -- so many answers 0

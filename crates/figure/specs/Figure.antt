@@ -4,11 +4,12 @@
 -- all that is not named stays as it was. With the readings of document 01: ⊥ is node 0 and is not kept among `local`, the set `local` is
 -- the word of nodes in use, `my` is 0 before the first choice, and `entered` counts the choices at line 11.
 -- Rests on the state's parts (crate `lock`) and the word of nodes in use (crate `word`) alone. Assumes nothing.
-use mathlib.Core.Bool.{Bool, cond, false}
+use mathlib.Core.Bool.{cond, false}
 use mathlib.Core.Logic.{_≢_}
 use mathlib.Core.Path.{_≡_}
 use Prim.Native.Nat.{ℕ, _+_, _≤_}
-use Rattle.lock.specs.State.{_⟨entered≔_⟩, _⟨flag≔_⟩, _⟨high≔_⟩, _⟨line≔_⟩, _⟨locked≔_⟩, _⟨low≔_⟩, _⟨mess≔_⟩, _⟨my≔_⟩, _⟨next≔_⟩, _⟨node_≔_⟩, _⟨nxmy≔_⟩, _⟨prev≔_⟩, _⟨shared≔_⟩, _⟨slot≔_⟩, _⟨succ≔_⟩, _⟨tail≔_⟩, _⟨thread_≔_⟩, _⟨used≔_⟩, nodeAt, threadAt}
+use Rattle.lock.specs.State.{_⟨entered≔_⟩, _⟨flag≔_⟩, _⟨high≔_⟩, _⟨line≔_⟩, _⟨locked≔_⟩, _⟨low≔_⟩, _⟨mess≔_⟩, _⟨my≔_⟩, _⟨next≔_⟩, _⟨node_≔_⟩}
+use Rattle.lock.specs.State.{_⟨nxmy≔_⟩, _⟨prev≔_⟩, _⟨shared≔_⟩, _⟨slot≔_⟩, _⟨succ≔_⟩, _⟨tail≔_⟩, _⟨thread_≔_⟩, _⟨used≔_⟩, nodeAt, threadAt}
 use Rattle.lock.specs.declared.State.{State}
 use Rattle.number.specs.Numbers.{behind, isNone, none, place, same}
 use Rattle.number.specs.declared.NodeNo.{NodeNo}

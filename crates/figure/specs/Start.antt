@@ -1,6 +1,5 @@
 -- A fresh state of document 01 is an initial state of Figure 1. Rests on what stands at a number of a fresh state's table (Laws, crate `lock`).
 -- Assumes nothing.
-use mathlib.Core.Bool.{true}
 use mathlib.Core.Path.{_≡_, ap, refl}
 use Prim.Native.Nat.{ℕ, _-_, _≤_}
 use Rattle.figure.specs.Figure.{Initially}

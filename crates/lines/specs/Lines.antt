@@ -12,7 +12,8 @@ use Rattle.number.specs.Numbers.{isNone, none, same}
 use Rattle.number.specs.Sizes.{firstLine}
 use Rattle.number.specs.declared.NodeNo.{NodeNo}
 use Rattle.lines.specs.declared.Act.{Act}
-use Rattle.lines.specs.declared.Act.the-variants.{Choose, ClearNext, SetLocked, Exchange, Stay, LowerFlag, LinkPrev, ReadNext, CloseTail, SendMess, Release, TakeMess, PassOn}
+use Rattle.lines.specs.declared.Act.the-variants.{Choose, ClearNext, SetLocked, Exchange, Stay, LowerFlag, LinkPrev, ReadNext, CloseTail}
+use Rattle.lines.specs.declared.Act.the-variants.{SendMess, Release, TakeMess, PassOn}
 use Rattle.lines.specs.declared.Follow.{Follow}
 use Rattle.lines.specs.declared.Follow.the-variants.{NoNode, My, Prev, Succ}
 use Rattle.lines.specs.declared.Line.{Line}

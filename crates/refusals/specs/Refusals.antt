@@ -5,7 +5,8 @@ use mathlib.Core.List.{List, [], _∷_}
 use Prim.Native.Nat.{ℕ}
 use lib.Dec.{eqb, leb, ltb}
 use Rattle.lines.specs.declared.Act.{Act}
-use Rattle.lines.specs.declared.Act.the-variants.{Choose, ClearNext, SetLocked, Exchange, Stay, LowerFlag, LinkPrev, ReadNext, CloseTail, SendMess, Release, TakeMess, PassOn}
+use Rattle.lines.specs.declared.Act.the-variants.{Choose, ClearNext, SetLocked, Exchange, Stay, LowerFlag, LinkPrev, ReadNext, CloseTail, SendMess}
+use Rattle.lines.specs.declared.Act.the-variants.{Release, TakeMess, PassOn}
 use Rattle.lines.specs.declared.Follow.{Follow}
 use Rattle.lines.specs.declared.Follow.the-variants.{My, NoNode, Prev, Succ}
 use Rattle.lines.specs.declared.Line.{Line}

@@ -2,7 +2,8 @@
 // (1 and 5 are judged where the state and the thread are known: crate `step`.) Rests on `lines` and the crates below it.
 ghost use mathlib.Core.Bool.{cond};
 ghost use mathlib.Core.Path.{_≡_};
-ghost use Rattle.refusals.specs.Refusals.{badNode, counts, followsEmpty, followsUnused, mustStay, noEntry, noPlace, refusal as refusalOf, takenNode, waitNumber};
+ghost use Rattle.refusals.specs.Refusals.{badNode, counts, followsEmpty, followsUnused, mustStay, noEntry, noPlace, refusal as refusalOf};
+ghost use Rattle.refusals.specs.Refusals.{takenNode, waitNumber};
 use lines::Act;
 use lines::Follow;
 use lines::Line;

@@ -14,6 +14,7 @@ use Rattle.step.specs.Conditions.{Condition, First, Follows, NoneApply, 
 use Rattle.step.specs.Proof.Answer
 use Rattle.step.specs.Proof.Against
 use Rattle.step.specs.Proof.Exactly
+use Rattle.step.specs.Proof.Stays
 use Rattle.step.specs.Step.{step}
 use Rattle.step.specs.declared.Stepped.{Stepped}
 pub use Rattle.step.specs.Demands.{Complete, Possible, Sound, Tool}
@@ -45,11 +46,11 @@ refused-unchanged = Answer.unchanged
 
 -- "Nothing else changes in a step": whatever the event, every other thread is as it was ..
 pub others-stay : (s : State) (t : ThreadNo) (n : NodeNo) (q : ThreadNo) → q .0 ≢ t .0 → threadAt (step s t n .state) q ≡ threadAt s q
-others-stay = Against.others-stay
+others-stay = Stays.others-stay
 
 -- .. and so is every node that the thread's line does not follow.
 pub nodes-stay : (s : State) (t : ThreadNo) (n : NodeNo) → Valid s → (k : NodeNo) → ¬ Follows (threadAt s t) k → nodeAt (step s t n .state) k ≡ nodeAt s k
-nodes-stay = Against.nodes-stay
+nodes-stay = Stays.nodes-stay
 
 -- An accepted step keeps a valid state valid.
 pub valid-kept : (s : State) (t : ThreadNo) (n : NodeNo) → Valid s → step s t n .answer ≡ done → Valid (step s t n .state)

@@ -1,4 +1,5 @@
--- `acts::perform` meets its contract. In each arm the act's own contract is the definition at the arm's variant; the room that an act needs is the requirement there. Assumes nothing.
+-- `acts::perform` meets its contract. In each arm the act's own contract is the definition at the arm's variant; the room that an act needs is
+-- the requirement there. Assumes nothing.
 use Rattle.acts.specs.Acts.{perform}
 use borrow.Author.Needs.{needs}
 use Rattle.acts.proofs.perform.Statement.{statement}

@@ -1,4 +1,5 @@
--- `acts::tell` meets its contract. By the answer: where it is 0 there is room for what the line counts up (`ready`), and the window is moved; else it is as it was. Assumes nothing.
+-- `acts::tell` meets its contract. By the answer: where it is 0 there is room for what the line counts up (`ready`), and the window is moved;
+-- else it is as it was. Assumes nothing.
 use mathlib.Core.Logic.{_≢_}
 use mathlib.Core.Path.{_≡_, sym, _∙_}
 use borrow.Author.Tests.{eq-eqb, ne-eqb}

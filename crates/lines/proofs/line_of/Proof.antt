@@ -1,4 +1,5 @@
--- `lines::line_of` meets its contract. Off the table both sides are the row that is no line's; within it the constant is the specification's list, element by element. Assumes nothing.
+-- `lines::line_of` meets its contract. Off the table both sides are the row that is no line's; within it the constant is the specification's
+-- list, element by element. Assumes nothing.
 use Prim.Native.Nat.{_-_}
 use native.Mathlib.Omega.{arith}
 use lib.ListN.{List·getD-eq-default}

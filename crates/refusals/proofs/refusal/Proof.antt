@@ -1,4 +1,5 @@
--- `refusals::refusal` meets its contract. Each `first` and each test is what its contract says, from refusal 6 down to 12; put in, they are the table of refusals. Assumes nothing.
+-- `refusals::refusal` meets its contract. Each `first` and each test is what its contract says, from refusal 6 down to 12; put in, they are the
+-- table of refusals. Assumes nothing.
 use Rattle.refusals.specs.Refusals.{refusal}
 use borrow.Author.Needs.{needs}
 use Rattle.refusals.proofs.refusal.Statement.{statement}

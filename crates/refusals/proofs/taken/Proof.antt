@@ -1,4 +1,5 @@
--- `refusals::taken` meets its contract. In each arm the definition computes at the arm's variant; that the node is held is what `in_use` ensures. Assumes nothing.
+-- `refusals::taken` meets its contract. In each arm the definition computes at the arm's variant; that the node is held is what `in_use` ensures.
+-- Assumes nothing.
 use borrow.Author.Needs.{needs}
 use Rattle.refusals.proofs.taken.Statement.{statement}
 use Rattle.refusals.proofs.taken.Tie as tie

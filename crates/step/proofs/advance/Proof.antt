@@ -34,12 +34,16 @@ tell-requires c κs = search needs
 close-requires : tie.Need-close-requires
 close-requires c κs = search needs
 
--- behind the call of `tell` the thread is 1 to T ..
-there : (c : tie.After-tell) → let a = c .before .before .before .before .before .before .before .before .args in noThread (a .s .shared .threads) (a .t) ≡ false
-there c = let start = c .before .before .before .before .before in sym (start .before .no-thread .ensures) ∙ start .if1 .left
+-- behind the call of `tell`: where the function started ..
+abbrev start : tie.After-tell → tie.Start
+start c = c .before .before .before .before .before .before .before .before
+
+-- .. the thread is 1 to T ..
+there : (c : tie.After-tell) → noThread (start c .args .s .shared .threads) (start c .args .t) ≡ false
+there c = let found = c .before .before .before .before .before in sym (found .before .no-thread .ensures) ∙ found .if1 .left
 
 -- .. and what was told is what the thread's line is told in this state
-told-is : (c : tie.After-tell) → let a = c .before .before .before .before .before .before .before .before .args in c .tell .result ≡ toldOf (a .s) (threadAt (a .s) (a .t)) (a .n)
+told-is : (c : tie.After-tell) → let a = start c .args in c .tell .result ≡ toldOf (a .s) (threadAt (a .s) (a .t)) (a .n)
 told-is c =
     c .tell .ensures ∙ simp (
       c .before .node-of .ensures,

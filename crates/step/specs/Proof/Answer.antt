@@ -1,5 +1,5 @@
 -- A step's answer, taken apart: which tests led to it, and what the state is then. Assumes nothing.
-use mathlib.Core.Bool.{Bool, cond, false, not, true, _||_}
+use mathlib.Core.Bool.{Bool, cond, false, not, true}
 use mathlib.Core.List.{List, _∷_}
 use mathlib.Core.Logic.{_≢_}
 use mathlib.Core.Path.{_≡_, ap, refl, sym, _∙_}

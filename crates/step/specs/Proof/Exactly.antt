@@ -1,13 +1,13 @@
 -- The answer of a step is the number of the first condition that applies: each test of the step says what its condition says (Judges), and the
 -- answer is that of the first test that holds (Answer). Assumes nothing.
-use mathlib.Core.Bool.{Bool, false, not, true, true≢false, _||_}
-use mathlib.Core.List.{List, [], _∷_, _++_}
-use mathlib.Core.Logic.{_≢_, _⊎_, _↔_, inl, inr}
+use mathlib.Core.Bool.{not, true≢false}
+use mathlib.Core.List.{List, _∷_, _++_}
+use mathlib.Core.Logic.{_↔_}
 use mathlib.Core.Path.{_≡_, refl, subst, sym, _∙_}
-use Prim.Native.Nat.{ℕ, _<_, _≤_}
+use Prim.Native.Nat.{ℕ}
 use native.Mathlib.Omega.{arith}
 use lib.Dec.{eqb, ltb}
-use lib.ListN.{drop, length}
+use lib.ListN.{drop}
 use borrow.Author.Tests.{eqb-true, ltb-true, not-false, not-true}
 use Rattle.lines.specs.Lines.{lineAt}
 use Rattle.lock.specs.Judged.{rule-valid, valid-rule}

@@ -2,7 +2,7 @@
 -- that the tests give is that of the first condition that applies, and no other number is. Assumes nothing.
 use mathlib.Core.Bool.{Bool, cond, false, true, true≢false}
 use mathlib.Core.List.{List, [], _∷_, _++_}
-use mathlib.Core.Logic.{_⊎_, _↔_, inl, inr}
+use mathlib.Core.Logic.{_↔_, inl, inr}
 use mathlib.Core.Path.{_≡_, refl, sym, _∙_}
 use Prim.Native.Nat.{ℕ, _≤_, _<_}
 use native.Mathlib.Omega.{arith}

@@ -1,11 +1,11 @@
 -- Each test of a step says what its condition says. The table's rows agree with document 01's sentences (Table), so each test goes by what its row
 -- counts, follows or waits for: four cases each, of which one or two speak. Assumes nothing.
-use mathlib.Core.Bool.{Bool, cond, false, not, true, true≢false, _&&_, _||_}
+use mathlib.Core.Bool.{Bool, false, not, true, true≢false, _||_}
 use mathlib.Core.Logic.{_≢_, _⊎_, inl, inr, ⊎-elim}
 use mathlib.Core.Path.{_≡_, ap, refl, subst, sym, _∙_}
-use Prim.Native.Nat.{ℕ, _≤_, _<_}
+use Prim.Native.Nat.{ℕ, _≤_}
 use native.Mathlib.Omega.{arith}
-use lib.Dec.{T, eqb, eqb→eq, leb, ltb}
+use lib.Dec.{T, eqb, eqb→eq, ltb}
 use borrow.Author.Tests.{eqb-false, eqb-true, leb-false, leb-true, ltb-false, ltb-true, ne-eqb, not-false, not-true}
 use Rattle.figure.specs.Figure.{entered, flag, high, line, local, locked, low, my, next}
 use Rattle.lines.specs.Lines.{followedBy, lineAt}
@@ -200,7 +200,8 @@ module _ (s : State) (t : ThreadNo) where
   Wait12 = mustWait given-when Waits s t
 
   -- the line of a thread that must wait is one of the three
-  waiting : {X : Type 0} → Waits s t → (line s t ≡ 16 → flag s ≢ 1 → X) → (line s t ≡ 19 → locked s (my s t) ≢ 0 → X) → (line s t ≡ 23 → next s (my s t) .0 ≡ 0 → X) → X
+  waiting : {X : Type 0} → Waits s t → (line s t ≡ 16 → flag s ≢ 1 → X) → (line s t ≡ 19 → locked s (my s t) ≢ 0 → X)
+      → (line s t ≡ 23 → next s (my s t) .0 ≡ 0 → X) → X
   waiting (at16 e h) f g k = f e h
   waiting (at19 e h) f g k = g e h
   waiting (at23 e h) f g k = k e h

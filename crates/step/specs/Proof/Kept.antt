@@ -1,13 +1,11 @@
 -- An accepted step keeps a valid state valid: first on the window, act by act, where it is arithmetic; then on the state, where only the window's
 -- own node and thread are changed. Assumes nothing.
-use mathlib.Core.Bool.{Bool, cond, false, true, _||_}
+use mathlib.Core.Bool.{Bool, cond, false, true}
 use mathlib.Core.List.{List}
-use mathlib.Core.Logic.{_≢_}
-use mathlib.Core.Path.{_≡_, ap, refl, sym, _∙_}
+use mathlib.Core.Path.{_≡_, _∙_}
 use Prim.Native.Nat.{ℕ, zero, suc, _≤_, _<_, _^_}
 use native.Mathlib.Decide.{ℕ-discrete}
 use native.Mathlib.Omega.{arith}
-use lib.Dec.{ltb}
 use lib.ListN.{length}
 use borrow.Author.Tests.{ltb-false}
 use Rattle.acts.specs.Acts.{Room, moved, perform}
@@ -16,11 +14,12 @@ use Rattle.lines.specs.Lines.{followedBy, goesFirst, lineAt, nextLine, window}
 use Rattle.lines.specs.declared.Follow.{Follow}
 use Rattle.lines.specs.declared.Follow.the-variants.{My, NoNode, Prev, Succ}
 use Rattle.lines.specs.declared.Act.{Act}
-use Rattle.lines.specs.declared.Act.the-variants.{Choose, ClearNext, CloseTail, Exchange, LinkPrev, LowerFlag, PassOn, ReadNext, Release, SendMess, SetLocked, Stay, TakeMess}
+use Rattle.lines.specs.declared.Act.the-variants.{Choose, ClearNext, CloseTail, Exchange, LinkPrev, LowerFlag, PassOn, ReadNext, Release, SendMess}
+use Rattle.lines.specs.declared.Act.the-variants.{SetLocked, Stay, TakeMess}
 use Rattle.lines.specs.declared.Line.{Line}
 use Rattle.lines.specs.declared.Window.{Window}
 use Rattle.lock.specs.Laws.{length-set-nth, nth-set-other, nth-set-same}
-use Rattle.lock.specs.State.{_⟨flag≔_⟩, _⟨line≔_⟩, _⟨locked≔_⟩, _⟨low≔_⟩, _⟨tail≔_⟩, nodeAt, nth, setNth, threadAt, zeroNode, zeroThread}
+use Rattle.lock.specs.State.{_⟨flag≔_⟩, _⟨locked≔_⟩, _⟨low≔_⟩, _⟨tail≔_⟩, nth, setNth, threadAt, zeroNode, zeroThread}
 use Rattle.lock.specs.Valid.{Between, NodeRange, SharedRange, ThreadRange, Valid}
 use Rattle.lock.specs.declared.State.{State}
 use Rattle.lock.specs.declared.Thread.{Thread}

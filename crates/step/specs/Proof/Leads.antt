@@ -1,21 +1,19 @@
 -- An accepted line leads where Figure 1 leads, line by line: what the executable definition computes at the line's number is what the figure's rule
 -- names. Three things are not by computation alone: a line that follows a node and leaves it alone stores it back (`set-same`), two variables of
 -- one thread are stored one after the other (`set-twice`, `nth-set-same`), and a line with a choice goes by cases. Assumes nothing.
-use mathlib.Core.Bool.{Bool, cond, false, true, _||_}
-use mathlib.Core.Logic.{_≢_}
+use mathlib.Core.Bool.{Bool, cond, false, true}
 use mathlib.Core.Path.{_≡_, ap, refl, sym, _∙_}
 use Prim.Native.Nat.{ℕ, _≤_}
-use native.Mathlib.Omega.{arith}
-use lib.Dec.{eqb}
 use lib.ListN.{length}
 use borrow.Author.Tests.{eqb-false, eqb-true, not-false}
 use Rattle.acts.specs.Acts.{moved, perform}
 use Rattle.acts.specs.Clear.{Clear}
 use Rattle.figure.specs.Figure.{Figure, _⟪flag≔_⟫, _⟪line_≔_⟫, _⟪locked_≔_⟫, _⟪low≔_⟫, _⟪tail≔_⟫, line, low, my, succ, tail}
-use Rattle.figure.specs.Figure.Figure.{line11, line12, line13, line14, line15, line16, line17, line18, line19, line20, line21, line22, line23, line24, line25, line26, line27, line28, line29}
+use Rattle.figure.specs.Figure.Figure.{line11, line12, line13, line14, line15, line16, line17, line18, line19, line20, line21, line22, line23, line24}
+use Rattle.figure.specs.Figure.Figure.{line25, line26, line27, line28, line29}
 use Rattle.lines.specs.Lines.{lineAt, window}
 use Rattle.lock.specs.Laws.{nth-set-same, set-same, set-twice}
-use Rattle.lock.specs.State.{_⟨flag≔_⟩, _⟨line≔_⟩, _⟨locked≔_⟩, _⟨low≔_⟩, _⟨shared≔_⟩, _⟨tail≔_⟩, nodeAt, threadAt, zeroNode, zeroThread}
+use Rattle.lock.specs.State.{_⟨flag≔_⟩, _⟨line≔_⟩, _⟨locked≔_⟩, _⟨low≔_⟩, _⟨shared≔_⟩, _⟨tail≔_⟩, nodeAt, threadAt}
 use Rattle.lock.specs.declared.State.{State}
 use Rattle.lock.specs.declared.Thread.{Thread}
 use Rattle.number.specs.Numbers.{behind, isNone, none, same}
@@ -24,6 +22,8 @@ use Rattle.number.specs.declared.NodeNo.{NodeNo}
 use Rattle.number.specs.declared.ThreadNo.{ThreadNo}
 use Rattle.step.specs.Proof.ByLine.{by-line}
 use Rattle.step.specs.Step.{after, closed, followed, windowOf}
+
+ruleset stores = (set-same, set-twice, nth-set-same)
 
 module _ (s : State) (t : ThreadNo) where
   -- 29, by whether succ is 0
@@ -34,7 +34,7 @@ module _ (s : State) (t : ThreadNo) where
       let w = cond b (window (sh ⟨flag≔ 1 ⟩) v nd) (window sh v (nd ⟨locked≔ 0 ⟩)) in
       closed s t (succ s t) (window (w .shared) (w .thread ⟨line≔ 11 ⟩) (w .node))
       ≡ cond b (s ⟪flag≔ 1 ⟫) (s ⟪locked succ s t ≔ 0 ⟫) ⟪low≔ behind (low s) ⟫ ⟪line t ≔ 11 ⟫
-  passes true = simp (set-same (s .node))
+  passes true = simp stores
   passes false = refl
 
   -- 22, by whether tail is my
@@ -56,7 +56,7 @@ module _ (s : State) (t : ThreadNo) (n : NodeNo) (from : 1 ≤ t .0) (to : t .0 
 
   leads11 : Leads 11
   unfolding lineAt perform moved
-  leads11 e c = line11 e (eqb-false _ _ (neither-holds _ _ (c .node) .0)) (c .free) (simp (nth-set-same (s .thread) (t .0), set-twice (s .thread) (t .0)))
+  leads11 e c = line11 e (eqb-false _ _ (neither-holds _ _ (c .node) .0)) (c .free) (simp stores)
 
   leads12 : Leads 12
   unfolding lineAt perform moved
@@ -68,7 +68,7 @@ module _ (s : State) (t : ThreadNo) (n : NodeNo) (from : 1 ≤ t .0) (to : t .0 
 
   leads14 : Leads 14
   unfolding lineAt perform moved
-  leads14 e c = line14 e (simp (nth-set-same (s .thread) (t .0), set-twice (s .thread) (t .0)))
+  leads14 e c = line14 e (simp stores)
 
   leads15 : Leads 15
   unfolding lineAt perform moved
@@ -88,11 +88,11 @@ module _ (s : State) (t : ThreadNo) (n : NodeNo) (from : 1 ≤ t .0) (to : t .0 
 
   leads19 : Leads 19
   unfolding lineAt perform moved
-  leads19 e c = line19 e (eqb-true _ _ (not-false _ (c .go))) (simp (set-same (s .node)))
+  leads19 e c = line19 e (eqb-true _ _ (not-false _ (c .go))) (simp stores)
 
   leads20 : Leads 20
   unfolding lineAt perform moved
-  leads20 e c = line20 e (simp (nth-set-same (s .thread) (t .0), set-twice (s .thread) (t .0), set-same (s .node)))
+  leads20 e c = line20 e (simp stores)
 
   leads21 : Leads 21
   unfolding lineAt perform moved
@@ -104,11 +104,11 @@ module _ (s : State) (t : ThreadNo) (n : NodeNo) (from : 1 ≤ t .0) (to : t .0 
 
   leads23 : Leads 23
   unfolding lineAt perform moved
-  leads23 e c = line23 e (eqb-false _ _ (c .go)) (simp (set-same (s .node)))
+  leads23 e c = line23 e (eqb-false _ _ (c .go)) (simp stores)
 
   leads24 : Leads 24
   unfolding lineAt perform moved
-  leads24 e c = line24 e (simp (nth-set-same (s .thread) (t .0), set-twice (s .thread) (t .0), set-same (s .node)))
+  leads24 e c = line24 e (simp stores)
 
   leads25 : Leads 25
   unfolding lineAt perform moved
@@ -116,7 +116,7 @@ module _ (s : State) (t : ThreadNo) (n : NodeNo) (from : 1 ≤ t .0) (to : t .0 
 
   leads26 : Leads 26
   unfolding lineAt perform moved
-  leads26 e c = line26 e (simp (nth-set-same (s .thread) (t .0), set-twice (s .thread) (t .0), set-same (s .node)))
+  leads26 e c = line26 e (simp stores)
 
   leads27 : Leads 27
   unfolding lineAt perform moved
@@ -124,7 +124,7 @@ module _ (s : State) (t : ThreadNo) (n : NodeNo) (from : 1 ≤ t .0) (to : t .0 
 
   leads28 : Leads 28
   unfolding lineAt perform moved
-  leads28 e c = line28 e (simp (nth-set-same (s .thread) (t .0), set-twice (s .thread) (t .0)))
+  leads28 e c = line28 e (simp stores)
 
   leads29 : Leads 29
   unfolding lineAt perform moved
@@ -185,22 +185,22 @@ module _ (s : State) (t : ThreadNo) (n : NodeNo) (from : 1 ≤ t .0) (to : t .0 
 
   pub ends : (s′ : State) → Figure t n s s′ → s′ ≡ after s t (threadAt s t) n
   unfolding lineAt perform moved
-  ends s′ (line11 e a b q) = q ∙ sym (simp (nth-set-same (s .thread) (t .0), set-twice (s .thread) (t .0))) ∙ there 11 e
+  ends s′ (line11 e a b q) = q ∙ sym (simp stores) ∙ there 11 e
   ends s′ (line12 e q) = q ∙ there 12 e
   ends s′ (line13 e q) = q ∙ there 13 e
-  ends s′ (line14 e q) = q ∙ sym (simp (nth-set-same (s .thread) (t .0), set-twice (s .thread) (t .0))) ∙ there 14 e
+  ends s′ (line14 e q) = q ∙ sym (simp stores) ∙ there 14 e
   ends s′ (line15 e q) = q ∙ there 15 e
   ends s′ (line16 e a q) = q ∙ there 16 e
   ends s′ (line17 e q) = q ∙ there 17 e
   ends s′ (line18 e q) = q ∙ there 18 e
-  ends s′ (line19 e a q) = q ∙ sym (simp (set-same (s .node))) ∙ there 19 e
-  ends s′ (line20 e q) = q ∙ sym (simp (nth-set-same (s .thread) (t .0), set-twice (s .thread) (t .0), set-same (s .node))) ∙ there 20 e
+  ends s′ (line19 e a q) = q ∙ sym (simp stores) ∙ there 19 e
+  ends s′ (line20 e q) = q ∙ sym (simp stores) ∙ there 20 e
   ends s′ (line21 e q) = q ∙ there 21 e
   ends s′ (line22 e q) = q ∙ sym (closes s t (same (tail s) (my s t))) ∙ there 22 e
-  ends s′ (line23 e a q) = q ∙ sym (simp (set-same (s .node))) ∙ there 23 e
-  ends s′ (line24 e q) = q ∙ sym (simp (nth-set-same (s .thread) (t .0), set-twice (s .thread) (t .0), set-same (s .node))) ∙ there 24 e
+  ends s′ (line23 e a q) = q ∙ sym (simp stores) ∙ there 23 e
+  ends s′ (line24 e q) = q ∙ sym (simp stores) ∙ there 24 e
   ends s′ (line25 e q) = q ∙ there 25 e
-  ends s′ (line26 e q) = q ∙ sym (simp (nth-set-same (s .thread) (t .0), set-twice (s .thread) (t .0), set-same (s .node))) ∙ there 26 e
+  ends s′ (line26 e q) = q ∙ sym (simp stores) ∙ there 26 e
   ends s′ (line27 e q) = q ∙ there 27 e
-  ends s′ (line28 e q) = q ∙ sym (simp (nth-set-same (s .thread) (t .0), set-twice (s .thread) (t .0))) ∙ there 28 e
+  ends s′ (line28 e q) = q ∙ sym (simp stores) ∙ there 28 e
   ends s′ (line29 e q) = q ∙ sym (passes s t (isNone (succ s t))) ∙ there 29 e
