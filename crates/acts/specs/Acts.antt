@@ -12,7 +12,7 @@ use Rattle.lines.specs.declared.Line.{Line}
 use Rattle.lines.specs.declared.Window.{Window}
 use Rattle.lock.specs.State.{_⟨entered≔_⟩, _⟨flag≔_⟩, _⟨high≔_⟩, _⟨line≔_⟩, _⟨locked≔_⟩, _⟨low≔_⟩, _⟨mess≔_⟩, _⟨my≔_⟩, _⟨next≔_⟩, _⟨nxmy≔_⟩}
 use Rattle.lock.specs.State.{_⟨prev≔_⟩, _⟨slot≔_⟩, _⟨succ≔_⟩, _⟨tail≔_⟩, _⟨used≔_⟩}
-use Rattle.number.specs.Numbers.{behind, isNone, none, same}
+use Rattle.number.specs.Numbers.{behind, isBottom, bottom, same}
 use Rattle.number.specs.Refused.{done}
 use Rattle.number.specs.Sizes.{lastPlace, mostEntries}
 use Rattle.number.specs.declared.NodeNo.{NodeNo}
@@ -29,7 +29,7 @@ choose w n =
 
 -- 12 | next(my) := 0
 abbrev pub clearNext : Window → Window
-clearNext w = window (w .shared) (w .thread) (w .node ⟨next≔ none ⟩)
+clearNext w = window (w .shared) (w .thread) (w .node ⟨next≔ bottom ⟩)
 
 -- 13 | locked(my) := 1
 abbrev pub setLocked : Window → Window
@@ -67,7 +67,7 @@ readNext w = window (w .shared) (w .thread ⟨nxmy≔ w .node .next ⟩ ⟨succ�
 -- 22 | if tail = my then tail := 0
 abbrev pub closeTail : Window → Window
 closeTail w =
-    window (w .shared ⟨tail≔ cond (same (w .shared .tail) (w .thread .my)) none (w .shared .tail) ⟩) (w .thread) (w .node)
+    window (w .shared ⟨tail≔ cond (same (w .shared .tail) (w .thread .my)) bottom (w .shared .tail) ⟩) (w .thread) (w .node)
 
 -- 25 | mess := succ
 abbrev pub sendMess : Window → Window
@@ -75,7 +75,7 @@ sendMess w = window (w .shared ⟨mess≔ w .thread .succ ⟩) (w .thread) (w .n
 
 -- 26 | succ := 0; my is no longer in use (the number stays)
 abbrev pub release : Window → Window
-release w = window (w .shared ⟨used≔ takeOut (w .shared .used) (w .thread .my) ⟩) (w .thread ⟨succ≔ none ⟩) (w .node)
+release w = window (w .shared ⟨used≔ takeOut (w .shared .used) (w .thread .my) ⟩) (w .thread ⟨succ≔ bottom ⟩) (w .node)
 
 -- 28 | succ := mess
 abbrev pub takeMess : Window → Window
@@ -85,7 +85,7 @@ takeMess w = window (w .shared) (w .thread ⟨succ≔ w .shared .mess ⟩) (w .n
 abbrev pub passOn : Window → Window
 passOn w =
     let sh = w .shared ⟨low≔ behind (w .shared .low) ⟩ in
-    cond (isNone (w .thread .succ))
+    cond (isBottom (w .thread .succ))
     (window (sh ⟨flag≔ 1 ⟩) (w .thread) (w .node))
     (window sh (w .thread) (w .node ⟨locked≔ 0 ⟩))
 

@@ -45,8 +45,8 @@ fn clear_next(w: Window) -> Window
     let sh = w.shared;
     let v = w.thread;
     let mut nd = w.node;
-    let none = NodeNo(0);
-    nd.next = none;
+    let bottom = NodeNo(0);
+    nd.next = bottom;
     Window {
         shared: sh,
         thread: v,
@@ -141,9 +141,9 @@ fn close_tail(w: Window) -> Window
     let mut sh = w.shared;
     let v = w.thread;
     let nd = w.node;
-    let none = NodeNo(0);
+    let bottom = NodeNo(0);
     if sh.tail.0 == v.my.0 {
-        sh.tail = none;
+        sh.tail = bottom;
     }
     Window {
         shared: sh,
@@ -174,8 +174,8 @@ fn release(w: Window) -> Window
     let mut v = w.thread;
     let nd = w.node;
     let used = word::take_out(sh.used, v.my);
-    let none = NodeNo(0);
-    v.succ = none;
+    let bottom = NodeNo(0);
+    v.succ = bottom;
     sh.used = used;
     Window {
         shared: sh,

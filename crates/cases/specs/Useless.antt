@@ -14,7 +14,7 @@ use Rattle.lock.specs.Fresh.{fresh, freshState, idleTo}
 use Rattle.lock.specs.State.{threadAt}
 use Rattle.lock.specs.Theorems.{fresh-valid}
 use Rattle.lock.specs.Valid.{nodesValid, sharedValid, threadsValid, valid}
-use Rattle.number.specs.Numbers.{node, none, thread}
+use Rattle.number.specs.Numbers.{node, bottom, thread}
 use Rattle.number.specs.Refused.{done, mustWait}
 use Rattle.number.specs.declared.NodeNo.{NodeNo}
 use Rattle.number.specs.declared.ThreadNo.{ThreadNo}
@@ -46,7 +46,7 @@ standsStill s t n = stepped done s
 
 -- the fifteen events of a passage of thread t alone, with node n: P2 for any thread and node
 abbrev pub passageOf : ThreadNo → NodeNo → List Event
-passageOf t n = record { thread = t; node = n } ∷ (14 times record { thread = t; node = none })
+passageOf t n = record { thread = t; node = n } ∷ (14 times record { thread = t; node = bottom })
 
 -- "one that does the whole passage at line 11 and then only moves line numbers": as the table of lines says for a thread that is alone
 unfoldable pub wholeAtOnce : Tool

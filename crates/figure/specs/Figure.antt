@@ -11,7 +11,7 @@ use Prim.Native.Nat.{ℕ, _+_, _≤_}
 use Rattle.lock.specs.State.{_⟨entered≔_⟩, _⟨flag≔_⟩, _⟨high≔_⟩, _⟨line≔_⟩, _⟨locked≔_⟩, _⟨low≔_⟩, _⟨mess≔_⟩, _⟨my≔_⟩, _⟨next≔_⟩, _⟨node_≔_⟩}
 use Rattle.lock.specs.State.{_⟨nxmy≔_⟩, _⟨prev≔_⟩, _⟨shared≔_⟩, _⟨slot≔_⟩, _⟨succ≔_⟩, _⟨tail≔_⟩, _⟨thread_≔_⟩, _⟨used≔_⟩, nodeAt, threadAt}
 use Rattle.lock.specs.declared.State.{State}
-use Rattle.number.specs.Numbers.{behind, isNone, none, place, same}
+use Rattle.number.specs.Numbers.{behind, isBottom, bottom, place, same}
 use Rattle.number.specs.declared.NodeNo.{NodeNo}
 use Rattle.number.specs.declared.Place.{Place}
 use Rattle.number.specs.declared.ThreadNo.{ThreadNo}
@@ -127,7 +127,7 @@ s ⟪slot p ≔ x ⟫ = s ⟨thread p ≔ threadAt s p ⟨slot≔ x ⟩ ⟩
 -- ---- initially: flag = true ∧ tail = ⊥ ∧ local = {⊥} ∧ low = high = 1 ∧ ∀ q ∈ thread : pc = 11 ∧ slot = 0
 pub record Initially (s : State) : Type 0 where
   pub raised : flag s ≡ 1
-  pub no-tail : tail s ≡ none
+  pub no-tail : tail s ≡ bottom
   pub none-used : (k : NodeNo) → inUse (local s) k ≡ false
   pub lowest : low s ≡ place 1
   pub highest : high s ≡ place 1
@@ -142,7 +142,7 @@ pub data Figure (p : ThreadNo) (n : NodeNo) (s s′ : State) : Type 0 where
       → s′ ≡ s ⟪my p ≔ n ⟫ ⟪local≔ putIn (local s) n ⟫ ⟪entered≔ entered s + 1 ⟫ ⟪line p ≔ 12 ⟫
       → Figure p n s s′
   -- 12  next(my) := ⊥
-  line12 : line s p ≡ 12 → s′ ≡ s ⟪next my s p ≔ none ⟫ ⟪line p ≔ 13 ⟫ → Figure p n s s′
+  line12 : line s p ≡ 12 → s′ ≡ s ⟪next my s p ≔ bottom ⟫ ⟪line p ≔ 13 ⟫ → Figure p n s s′
   -- 13  locked(my) := true
   line13 : line s p ≡ 13 → s′ ≡ s ⟪locked my s p ≔ 1 ⟫ ⟪line p ≔ 14 ⟫ → Figure p n s s′
   -- 14  prev := tail; tail := my; slot := high; high++
@@ -151,7 +151,7 @@ pub data Figure (p : ThreadNo) (n : NodeNo) (s s′ : State) : Type 0 where
       → s′ ≡ s ⟪prev p ≔ tail s ⟫ ⟪tail≔ my s p ⟫ ⟪slot p ≔ high s ⟫ ⟪high≔ behind (high s) ⟫ ⟪line p ≔ 15 ⟫
       → Figure p n s s′
   -- 15  if prev = ⊥ then (16) else (18)
-  line15 : line s p ≡ 15 → s′ ≡ s ⟪line p ≔ cond (isNone (prev s p)) 16 18 ⟫ → Figure p n s s′
+  line15 : line s p ≡ 15 → s′ ≡ s ⟪line p ≔ cond (isBottom (prev s p)) 16 18 ⟫ → Figure p n s s′
   -- 16  await (flag)
   line16 : line s p ≡ 16 → flag s ≡ 1 → s′ ≡ s ⟪line p ≔ 17 ⟫ → Figure p n s s′
   -- 17  flag := false, and on behind the endif
@@ -164,11 +164,11 @@ pub data Figure (p : ThreadNo) (n : NodeNo) (s s′ : State) : Type 0 where
   line20 :
       line s p ≡ 20 → s′ ≡ s ⟪nxmy p ≔ next s (my s p) ⟫ ⟪succ p ≔ next s (my s p) ⟫ ⟪line p ≔ 21 ⟫ → Figure p n s s′
   -- 21  if succ = ⊥ then (22), else on behind the endif
-  line21 : line s p ≡ 21 → s′ ≡ s ⟪line p ≔ cond (isNone (succ s p)) 22 25 ⟫ → Figure p n s s′
+  line21 : line s p ≡ 21 → s′ ≡ s ⟪line p ≔ cond (isBottom (succ s p)) 22 25 ⟫ → Figure p n s s′
   -- 22  if tail = my then tail := ⊥ and on behind the endif, else (23)
   line22 :
       line s p ≡ 22
-      → s′ ≡ cond (same (tail s) (my s p)) (s ⟪tail≔ none ⟫ ⟪line p ≔ 25 ⟫) (s ⟪line p ≔ 23 ⟫)
+      → s′ ≡ cond (same (tail s) (my s p)) (s ⟪tail≔ bottom ⟫ ⟪line p ≔ 25 ⟫) (s ⟪line p ≔ 23 ⟫)
       → Figure p n s s′
   -- 23  await (next(my) ≠ ⊥)
   line23 : line s p ≡ 23 → next s (my s p) .0 ≢ 0 → s′ ≡ s ⟪line p ≔ 24 ⟫ → Figure p n s s′
@@ -179,7 +179,7 @@ pub data Figure (p : ThreadNo) (n : NodeNo) (s s′ : State) : Type 0 where
   line25 : line s p ≡ 25 → s′ ≡ s ⟪mess≔ succ s p ⟫ ⟪line p ≔ 26 ⟫ → Figure p n s s′
   -- 26  succ := ⊥; remove my from local
   line26 :
-      line s p ≡ 26 → s′ ≡ s ⟪succ p ≔ none ⟫ ⟪local≔ takeOut (local s) (my s p) ⟫ ⟪line p ≔ 27 ⟫ → Figure p n s s′
+      line s p ≡ 26 → s′ ≡ s ⟪succ p ≔ bottom ⟫ ⟪local≔ takeOut (local s) (my s p) ⟫ ⟪line p ≔ 27 ⟫ → Figure p n s s′
   -- 27  CS
   line27 : line s p ≡ 27 → s′ ≡ s ⟪line p ≔ 28 ⟫ → Figure p n s s′
   -- 28  succ := mess
@@ -187,5 +187,5 @@ pub data Figure (p : ThreadNo) (n : NodeNo) (s s′ : State) : Type 0 where
   -- 29  if succ ≠ ⊥ then locked(succ) := false else flag := true endif; low++
   line29 :
       line s p ≡ 29
-      → s′ ≡ cond (isNone (succ s p)) (s ⟪flag≔ 1 ⟫) (s ⟪locked succ s p ≔ 0 ⟫) ⟪low≔ behind (low s) ⟫ ⟪line p ≔ 11 ⟫
+      → s′ ≡ cond (isBottom (succ s p)) (s ⟪flag≔ 1 ⟫) (s ⟪locked succ s p ≔ 0 ⟫) ⟪low≔ behind (low s) ⟫ ⟪line p ≔ 11 ⟫
       → Figure p n s s′

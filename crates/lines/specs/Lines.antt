@@ -8,7 +8,7 @@ use lib.ListN.{getD}
 use Rattle.lock.specs.declared.Node.{Node}
 use Rattle.lock.specs.declared.Shared.{Shared}
 use Rattle.lock.specs.declared.Thread.{Thread}
-use Rattle.number.specs.Numbers.{isNone, none, same}
+use Rattle.number.specs.Numbers.{isBottom, bottom, same}
 use Rattle.number.specs.Sizes.{firstLine}
 use Rattle.number.specs.declared.NodeNo.{NodeNo}
 use Rattle.lines.specs.declared.Act.{Act}
@@ -80,7 +80,7 @@ lineAt n = cond (ltb n firstLine) offTable (getD lines (n - firstLine) offTable)
 
 -- the node that a thread's line follows; 0 where it follows none
 abbrev pub followedBy : Follow → Thread → NodeNo
-followedBy NoNode v = none
+followedBy NoNode v = bottom
 followedBy My v = v .my
 followedBy Prev v = v .prev
 followedBy Succ v = v .succ
@@ -92,8 +92,8 @@ window sh v nd = record { shared = sh; thread = v; node = nd }
 -- "looks at prev", 16 if 0; "looks at succ", 22 if 0; "if tail = my", 25 if it was
 abbrev pub goesFirst : Look → Window → Bool
 goesFirst Straight w = true
-goesFirst AtPrev w = isNone (w .thread .prev)
-goesFirst AtSucc w = isNone (w .thread .succ)
+goesFirst AtPrev w = isBottom (w .thread .prev)
+goesFirst AtSucc w = isBottom (w .thread .succ)
 goesFirst AtTail w = same (w .shared .tail) (w .thread .my)
 
 -- the line that comes next

@@ -4,7 +4,7 @@ use mathlib.Core.List.{List, _++_}
 use Prim.Native.Nat.{ℕ, _-_}
 use lib.Dec.{leb}
 use lib.ListN.{replicate}
-use Rattle.number.specs.Numbers.{none, place}
+use Rattle.number.specs.Numbers.{bottom, place}
 use Rattle.number.specs.Refused.{badSize, done}
 use Rattle.number.specs.Sizes.{mostNodes, mostThreads}
 use Rattle.lock.specs.State.{_⟨line≔_⟩, tableSize, zeroNode, zeroState, zeroThread}
@@ -31,8 +31,8 @@ freshShared T K = record {
   threads = T;
   nodes = K;
   flag = 1;
-  tail = none;
-  mess = none;
+  tail = bottom;
+  mess = bottom;
   low = place 1;
   high = place 1;
   entered = 0;

@@ -6,7 +6,7 @@
 use mathlib.Core.List.{List}
 use Prim.Native.Nat.{ℕ, zero, suc}
 use lib.ListN.{getD, replicate, set}
-use Rattle.number.specs.Numbers.{none, place}
+use Rattle.number.specs.Numbers.{bottom, place}
 use Rattle.number.specs.Sizes.{mostNodes}
 use Rattle.number.specs.declared.NodeNo.{NodeNo}
 use Rattle.number.specs.declared.Place.{Place}
@@ -36,13 +36,13 @@ infixl 60 _⟨node_≔_⟩
 infixl 60 _⟨thread_≔_⟩
 -- ---- 0 everywhere
 abbrev pub zeroNode : Node
-zeroNode = record { next = none; locked = 0 }
+zeroNode = record { next = bottom; locked = 0 }
 
 abbrev pub zeroThread : Thread
-zeroThread = record { line = 0; my = none; prev = none; succ = none; nxmy = none; slot = place 0 }
+zeroThread = record { line = 0; my = bottom; prev = bottom; succ = bottom; nxmy = bottom; slot = place 0 }
 
 abbrev pub zeroShared : Shared
-zeroShared = record { threads = 0; nodes = 0; flag = 0; tail = none; mess = none; low = place 0; high = place 0; entered = 0; used = 0 }
+zeroShared = record { threads = 0; nodes = 0; flag = 0; tail = bottom; mess = bottom; low = place 0; high = place 0; entered = 0; used = 0 }
 
 -- both tables of a state have room for 32, the most threads and the most nodes
 abbrev pub tableSize : ℕ

@@ -17,11 +17,11 @@ abbrev pub place : ℕ → Place
 place k = record { 0 = k }
 
 -- "Node 0 is the figure's ⊥"
-abbrev pub none : NodeNo
-none = node 0
+abbrev pub bottom : NodeNo
+bottom = node 0
 
-abbrev pub isNone : NodeNo → Bool
-isNone k = eqb (k .0) 0
+abbrev pub isBottom : NodeNo → Bool
+isBottom k = eqb (k .0) 0
 
 -- the two name the same node
 abbrev pub same : NodeNo → NodeNo → Bool

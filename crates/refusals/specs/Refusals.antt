@@ -14,7 +14,7 @@ use Rattle.lines.specs.declared.Wait.{Wait}
 use Rattle.lines.specs.declared.Wait.the-variants.{ForFlag, ForLink, ForUnlock, NoWait}
 use Rattle.lines.specs.declared.Window.{Window}
 use Rattle.lock.specs.declared.Node.{Node}
-use Rattle.number.specs.Numbers.{isNone}
+use Rattle.number.specs.Numbers.{isBottom}
 use Rattle.number.specs.Refused.{done, followedEmpty, followedUnused, mustWait, noEntryLeft, noPlaceLeft, nodeTaken, wrongNode}
 use Rattle.number.specs.Sizes.{lastPlace, mostEntries}
 use Rattle.number.specs.declared.NodeNo.{NodeNo}
@@ -23,7 +23,7 @@ use Rattle.word.specs.Word.{inUse}
 use Rattle.refusals.specs.declared.Count.{Count}
 use Rattle.refusals.specs.declared.Count.the-variants.{Entries, High, Low, Nothing}
 
-infix 68 _when_
+infix 68 _if_
 -- ---- what is judged
 
 -- what an act counts up: line 11 the entries, line 14 high, line 29 low
@@ -44,10 +44,10 @@ counts PassOn = Low
 
 -- 6: "at line 11 the node is not 1 to K; elsewhere it is not 0"
 abbrev pub badNode : Count → ℕ → NodeNo → Bool
-badNode Entries nodes n = isNone n || ltb nodes (n .0)
-badNode Nothing nodes n = not (isNone n)
-badNode High nodes n = not (isNone n)
-badNode Low nodes n = not (isNone n)
+badNode Entries nodes n = isBottom n || ltb nodes (n .0)
+badNode Nothing nodes n = not (isBottom n)
+badNode High nodes n = not (isBottom n)
+badNode Low nodes n = not (isBottom n)
 
 -- 7: "line 11 with entered = 1,000,000"
 abbrev pub noEntry : Count → ℕ → Bool
@@ -66,13 +66,13 @@ takenNode Low used n = false
 -- 9: "a followed node is 0"; succ is followed only where it is not 0
 abbrev pub followsEmpty : Follow → NodeNo → Bool
 followsEmpty NoNode k = false
-followsEmpty My k = isNone k
-followsEmpty Prev k = isNone k
+followsEmpty My k = isBottom k
+followsEmpty Prev k = isBottom k
 followsEmpty Succ k = false
 
 -- 10: "a followed node is not in use"
 abbrev pub followsUnused : ℕ → NodeNo → Bool
-followsUnused used k = not (isNone k) && not (inUse used k)
+followsUnused used k = not (isBottom k) && not (inUse used k)
 
 -- 11: "line 14 with high, or line 29 with low, at 1,000,001"
 abbrev pub noPlace : Count → Place → Place → Bool
@@ -86,7 +86,7 @@ abbrev pub mustStay : Wait → ℕ → Node → Bool
 mustStay NoWait flag nd = false
 mustStay ForFlag flag nd = not (eqb flag 1)
 mustStay ForUnlock flag nd = not (eqb (nd .locked) 0)
-mustStay ForLink flag nd = isNone (nd .next)
+mustStay ForLink flag nd = isBottom (nd .next)
 
 -- the number that a wait is answered with
 abbrev pub waitNumber : Wait → ℕ
@@ -101,8 +101,8 @@ pub record Refusal : Type 0 where
   pub number : ℕ
   pub applies : Bool
 
-abbrev pub _when_ : ℕ → Bool → Refusal
-number when test = record { number = number; applies = test }
+abbrev pub _if_ : ℕ → Bool → Refusal
+number if test = record { number = number; applies = test }
 
 -- "The first that applies, in this order, is given"; "Success is 0."
 abbrev pub firstOf : List Refusal → ℕ
@@ -114,13 +114,13 @@ abbrev pub refusals : Window → Line → NodeNo → NodeNo → List Refusal
 refusals w r k n =
     let sh = w .shared in
     let c = counts (r .act) in
-    wrongNode when badNode c (sh .nodes) n
-    ∷ noEntryLeft when noEntry c (sh .entered)
-    ∷ nodeTaken when takenNode c (sh .used) n
-    ∷ followedEmpty when followsEmpty (r .follow) k
-    ∷ followedUnused when followsUnused (sh .used) k
-    ∷ noPlaceLeft when noPlace c (sh .high) (sh .low)
-    ∷ waitNumber (r .wait) when mustStay (r .wait) (sh .flag) (w .node)
+    wrongNode if badNode c (sh .nodes) n
+    ∷ noEntryLeft if noEntry c (sh .entered)
+    ∷ nodeTaken if takenNode c (sh .used) n
+    ∷ followedEmpty if followsEmpty (r .follow) k
+    ∷ followedUnused if followsUnused (sh .used) k
+    ∷ noPlaceLeft if noPlace c (sh .high) (sh .low)
+    ∷ waitNumber (r .wait) if mustStay (r .wait) (sh .flag) (w .node)
     ∷ []
 
 unfoldable pub refusal : Window → Line → NodeNo → NodeNo → ℕ

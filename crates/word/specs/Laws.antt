@@ -13,16 +13,12 @@ use lib.Pow.{pow-lt, pow-mono, pow-pos}
 use borrow.Author.Tests.{eq-eqb, eqb-true, le-leb, leb-true}
 use Rattle.number.specs.Numbers.{node}
 use Rattle.number.specs.Sizes.{mostNodes}
+use Rattle.number.specs.Tests.{first-holds, second-holds}
 use Rattle.number.specs.declared.NodeNo.{NodeNo}
 use Rattle.word.specs.Word.{aloneIn, bit, hasBit, howMany, howManyTo, inUse, noneFrom, putIn, takeOut}
 use Rattle.word.specs.Bits.{bit-above, bit-and, bit-not, bit-or, bit-pow-other, bit-pow-same, bit-top, bit-zero, bits-below, in-bit}
 
 -- ---- two tests that must both pass
-
--- each passes
-both : (a b : Bool) → (a && b) ≡ true → (a ≡ true) × (b ≡ true)
-both true b h = (refl, h)
-both false b h = (h, cc)
 
 -- the second matters only where the first passes
 second : (a b c : Bool) → (a ≡ true → b ≡ c) → (a && b) ≡ (a && c)
@@ -38,7 +34,7 @@ fails false = refl
 
 -- a node that has a bit is one of 1 to 32
 range : (k : NodeNo) → hasBit k ≡ true → (1 ≤ k .0) × (k .0 ≤ mostNodes)
-range k h = let (a, b) = both (leb 1 (k .0)) (leb (k .0) mostNodes) h in (leb-true 1 (k .0) a, leb-true (k .0) mostNodes b)
+range k h = (leb-true _ _ (first-holds _ _ h), leb-true _ _ (second-holds (leb 1 (k .0)) _ h))
 
 -- a node that has a bit is in use where the bit is 1
 in-set : (w : ℕ) (k : NodeNo) → hasBit k ≡ true → bit w (k .0 - 1) ≡ 1 → inUse w k ≡ true
@@ -122,7 +118,7 @@ has-bit k a b = rw (le-leb 1 (k .0) a, le-leb (k .0) mostNodes b)
 -- A node in use is one of 1 to 32.
 pub in-has-bit : (w : ℕ) (k : NodeNo) → inUse w k ≡ true → (1 ≤ k .0) × (k .0 ≤ mostNodes)
 unfolding inUse
-in-has-bit w k h = range k (both (hasBit k) (eqb (bit w (k .0 - 1)) 1) h .0)
+in-has-bit w k h = range k (first-holds _ _ h)
 
 -- A word with no bit from m up is below 2 ^ m.
 pub none-from : (w m : ℕ) → noneFrom w m ≡ true → w < 2 ^ m

@@ -118,8 +118,8 @@ module _ (s : State) (t : ThreadNo) (n : NodeNo) where
   goes a (at23 e h) = at 23 e a .3 h
 
   -- no condition applies to a possible step that the figure allows
-  none : Valid s → Possible s t n → Asks (line s t) → NoneApply (conditions s t n)
-  none rule p a = (
+  none-applies : Valid s → Possible s t n → Asks (line s t) → NoneApply (conditions s t n)
+  none-applies rule p a = (
     (λ h. h rule),
     (
       (λ h. h (p .thread)),
@@ -147,7 +147,7 @@ module _ (s : State) (t : ThreadNo) (n : NodeNo) where
 
 pub complete : Complete step
 complete s t n s′ rule p f =
-    let e = accepted-exactly s t n (rule .sized) .1 (none s t n rule p (asks s t n s′ f)) in
+    let e = accepted-exactly s t n (rule .sized) .1 (none-applies s t n rule p (asks s t n s′ f)) in
     let b = here s t n rule e in
     executes s t n (accepted s t n e) ∙ ap (stepped done) (sym (ends s t n (b .from) (b .to) s′ f))
 

@@ -17,7 +17,7 @@ use Rattle.number.specs.Refused.{badState, done, noSuchThread}
 use Rattle.number.specs.Tests.{neither-holds}
 use Rattle.number.specs.declared.NodeNo.{NodeNo}
 use Rattle.number.specs.declared.ThreadNo.{ThreadNo}
-use Rattle.refusals.specs.Refusals.{Refusal, _when_, firstOf, refusal, refusals}
+use Rattle.refusals.specs.Refusals.{Refusal, _if_, firstOf, refusal, refusals}
 use Rattle.step.specs.Step.{advance, advanceBy, after, followed, noThread, refusalOf, step, stepped, windowOf}
 use Rattle.step.specs.declared.Stepped.{Stepped}
 
@@ -50,8 +50,8 @@ module _ (s : State) (t : ThreadNo) (n : NodeNo) where
   -- ---- the answer is that of the first test that holds
   abbrev pub tests : List Refusal
   tests =
-      badState when not (valid s)
-      ∷ noSuchThread when noThread (s .shared .threads) t
+      badState if not (valid s)
+      ∷ noSuchThread if noThread (s .shared .threads) t
       ∷ refusals (windowOf s v) (lineAt (v .line)) (followed v) n
 
   pub answer-first : step s t n .answer ≡ firstOf tests

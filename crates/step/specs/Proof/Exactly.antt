@@ -19,7 +19,7 @@ use Rattle.number.specs.Refused.{badState, done, noSuchThread}
 use Rattle.number.specs.Tests.{either-holds}
 use Rattle.number.specs.declared.NodeNo.{NodeNo}
 use Rattle.number.specs.declared.ThreadNo.{ThreadNo}
-use Rattle.refusals.specs.Refusals.{_when_, counts, refusals}
+use Rattle.refusals.specs.Refusals.{_if_, counts, refusals}
 use Rattle.step.specs.Conditions.{Condition, First, NoneApply, _given-when_, conditions}
 use Rattle.step.specs.Proof.Answer.{answer-first, in-table, tests}
 use Rattle.step.specs.Proof.FirstThat.{AllReflect, Reflects, Rising, first-none, first-of, first-one, first-this}
@@ -31,13 +31,13 @@ module _ (s : State) (t : ThreadNo) (n : NodeNo) (sized : Sized s) where
   abbrev v : Thread
   v = threadAt s t
 
-  judges1 : Reflects (badState when not (valid s)) (badState given-when (Valid s → ⊥))
+  judges1 : Reflects (badState if not (valid s)) (badState given-when (Valid s → ⊥))
   judges1 = record {
     holds = λ e. ((λ rule. true≢false (sym (rule-valid s rule) ∙ not-true _ e)), refl);
     fails = λ e broken. broken (valid-rule s sized (not-false _ e));
   }
 
-  judges5 : Reflects (noSuchThread when noThread (s .shared .threads) t) (noSuchThread given-when (Between 1 (t .0) (s .shared .threads) → ⊥))
+  judges5 : Reflects (noSuchThread if noThread (s .shared .threads) t) (noSuchThread given-when (Between 1 (t .0) (s .shared .threads) → ⊥))
   judges5 = record {
     holds = λ e. (
       (λ b. either-holds (eqb (t .0) 0) (ltb (s .shared .threads) (t .0)) e (λ z. omega (arith, eqb-true (t .0) 0 z))

@@ -17,13 +17,13 @@ use Rattle.lock.specs.State.{nodeAt, threadAt}
 use Rattle.lock.specs.Valid.{Between}
 use Rattle.lock.specs.declared.State.{State}
 use Rattle.lock.specs.declared.Thread.{Thread}
-use Rattle.number.specs.Numbers.{isNone}
+use Rattle.number.specs.Numbers.{isBottom}
 use Rattle.number.specs.Refused.{followedEmpty, followedUnused, mustWait, noEntryLeft, noPlaceLeft, nodeTaken, wrongNode}
 use Rattle.number.specs.Sizes.{lastPlace, mostEntries}
 use Rattle.number.specs.Tests.{either-holds, first-holds, neither-holds, second-holds}
 use Rattle.number.specs.declared.NodeNo.{NodeNo}
 use Rattle.number.specs.declared.ThreadNo.{ThreadNo}
-use Rattle.refusals.specs.Refusals.{_when_, badNode, followsEmpty, followsUnused, mustStay, noEntry, noPlace, takenNode, waitNumber}
+use Rattle.refusals.specs.Refusals.{_if_, badNode, followsEmpty, followsUnused, mustStay, noEntry, noPlace, takenNode, waitNumber}
 use Rattle.refusals.specs.declared.Count.{Count}
 use Rattle.refusals.specs.declared.Count.the-variants.{Entries, High, Low, Nothing}
 use Rattle.word.specs.Word.{inUse}
@@ -51,21 +51,21 @@ module _ (s : State) (t : ThreadNo) (n : NodeNo) where
   Wrong = wrongNode given-when (((line s t ≡ 11) × (Between 1 (n .0) K → ⊥)) ⊎ ((line s t ≢ 11) × (n .0 ≢ 0)))
 
   -- where the line is not 11 the node must be 0
-  elsewhere : line s t ≢ 11 → Reflects (wrongNode when not (isNone n)) Wrong
+  elsewhere : line s t ≢ 11 → Reflects (wrongNode if not (isBottom n)) Wrong
   elsewhere off = record {
     holds = λ e. (inr (off, eqb-false _ _ (not-true _ e)), refl);
     fails = λ e. ⊎-elim (λ h. off (h .0)) (λ h. h .1 (eqb-true _ _ (not-false _ e)));
   }
 
-  pub judges6 : (c : Count) → T (countsAt c (line s t)) → Reflects (wrongNode when badNode c K n) Wrong
+  pub judges6 : (c : Count) → T (countsAt c (line s t)) → Reflects (wrongNode if badNode c K n) Wrong
   judges6 Entries h =
       let e11 = eqb→eq (line s t) 11 h in
       record {
         holds = λ e.
-            (inl (e11, λ b. either-holds (isNone n) (ltb K (n .0)) e (λ z. omega (arith, eqb-true (n .0) 0 z)) (λ z. omega (arith, ltb-true K (n .0) z))), refl);
+            (inl (e11, λ b. either-holds (isBottom n) (ltb K (n .0)) e (λ z. omega (arith, eqb-true (n .0) 0 z)) (λ z. omega (arith, ltb-true K (n .0) z))), refl);
         fails = λ e.
-            let some : n .0 ≢ 0 = eqb-false _ _ (neither-holds (isNone n) _ e .0) in
-            let within : n .0 ≤ K = ltb-false _ _ (neither-holds (isNone n) _ e .1) in
+            let some : n .0 ≢ 0 = eqb-false _ _ (neither-holds (isBottom n) _ e .0) in
+            let within : n .0 ≤ K = ltb-false _ _ (neither-holds (isBottom n) _ e .1) in
             ⊎-elim (λ h. h .1 (record { from = omega arith; to = within })) (λ h. h .0 e11);
       }
   judges6 Nothing h = elsewhere (λ e. at (countsAt Nothing) h e)
@@ -74,7 +74,7 @@ module _ (s : State) (t : ThreadNo) (n : NodeNo) where
 
   -- 7, where entered is at most 1,000,000
   pub judges7 : entered s ≤ mostEntries → (c : Count) → T (countsAt c (line s t))
-      → Reflects (noEntryLeft when noEntry c (entered s)) (noEntryLeft given-when ((line s t ≡ 11) × (entered s ≡ mostEntries)))
+      → Reflects (noEntryLeft if noEntry c (entered s)) (noEntryLeft given-when ((line s t ≡ 11) × (entered s ≡ mostEntries)))
   judges7 most Entries h =
       record {
         holds = λ e. ((eqb→eq (line s t) 11 h, omega (arith, leb-true mostEntries (entered s) e)), refl);
@@ -85,7 +85,7 @@ module _ (s : State) (t : ThreadNo) (n : NodeNo) where
   judges7 most Low h = never _ _ (λ a. at (countsAt Low) h (a .0))
 
   pub judges8 : (c : Count) → T (countsAt c (line s t))
-      → Reflects (nodeTaken when takenNode c (local s) n) (nodeTaken given-when ((line s t ≡ 11) × (inUse (local s) n ≡ true)))
+      → Reflects (nodeTaken if takenNode c (local s) n) (nodeTaken given-when ((line s t ≡ 11) × (inUse (local s) n ≡ true)))
   judges8 Entries h =
       record {
         holds = λ e. ((eqb→eq (line s t) 11 h, e), refl);
@@ -100,7 +100,7 @@ module _ (s : State) (t : ThreadNo) (n : NodeNo) where
 
   -- 11, where high and low are at most 1,000,001
   pub judges11 : high s .0 ≤ lastPlace → low s .0 ≤ lastPlace → (c : Count) → T (countsAt c (line s t))
-      → Reflects (noPlaceLeft when noPlace c (high s) (low s)) NoPlace
+      → Reflects (noPlaceLeft if noPlace c (high s) (low s)) NoPlace
   judges11 p q Nothing h =
       never _ NoPlace (⊎-elim (λ a. at (countsAt Nothing) h (a .0)) (λ a. at (countsAt Nothing) h (a .0)))
   judges11 p q Entries h =
@@ -157,14 +157,14 @@ module _ (v : Thread) where
   Empty = followedEmpty given-when ((k : NodeNo) × Follows v k × (k .0 ≡ 0))
 
   -- a row that names a node without a condition
-  empty : (f : Follow) → T (followsAt f (v .line)) → Follows v (followedBy f v) → followsEmpty f (followedBy f v) ≡ isNone (followedBy f v)
-      → Reflects (followedEmpty when followsEmpty f (followedBy f v)) Empty
+  empty : (f : Follow) → T (followsAt f (v .line)) → Follows v (followedBy f v) → followsEmpty f (followedBy f v) ≡ isBottom (followedBy f v)
+      → Reflects (followedEmpty if followsEmpty f (followedBy f v)) Empty
   empty f h d q = record {
     holds = λ e. ((followedBy f v, d, eqb-true _ _ (sym q ∙ e)), refl);
     fails = λ e a. some f h e (a .0) (a .1) (a .2);
   }
 
-  pub judges9 : (f : Follow) → T (followsAt f (v .line)) → Reflects (followedEmpty when followsEmpty f (followedBy f v)) Empty
+  pub judges9 : (f : Follow) → T (followsAt f (v .line)) → Reflects (followedEmpty if followsEmpty f (followedBy f v)) Empty
   judges9 NoNode h = never _ Empty (λ a. nothing (a .0) h (a .1))
   judges9 My h = empty My h (my-at h refl) refl
   judges9 Prev h = empty Prev h (prev-at (eqb→eq (v .line) 18 h) refl) refl
@@ -172,15 +172,15 @@ module _ (v : Thread) where
 
   -- 10, where 9 does not apply
   pub judges10 : (used : ℕ) (f : Follow) → T (followsAt f (v .line)) → followsEmpty f (followedBy f v) ≡ false
-      → Reflects (followedUnused when followsUnused used (followedBy f v)) (followedUnused given-when ((k : NodeNo) × Follows v k × (inUse used k ≡ false)))
+      → Reflects (followedUnused if followsUnused used (followedBy f v)) (followedUnused given-when ((k : NodeNo) × Follows v k × (inUse used k ≡ false)))
   judges10 used f h z = record {
     holds = λ e.
         let k = followedBy f v in
-        let there : k .0 ≢ 0 = eqb-false _ _ (not-true _ (first-holds (not (isNone k)) _ e)) in
-        ((k, follows f h there, not-true _ (second-holds (not (isNone k)) _ e)), refl);
+        let there : k .0 ≢ 0 = eqb-false _ _ (not-true _ (first-holds (not (isBottom k)) _ e)) in
+        ((k, follows f h there, not-true _ (second-holds (not (isBottom k)) _ e)), refl);
     fails = λ e a.
         let same = only f h (a .0) (a .1) in
-        let there : isNone (followedBy f v) ≡ false = ne-eqb _ _ (λ q. some f h z (a .0) (a .1) (ap (λ (x : NodeNo). x .0) same ∙ q)) in
+        let there : isBottom (followedBy f v) ≡ false = ne-eqb _ _ (λ q. some f h z (a .0) (a .1) (ap (λ (x : NodeNo). x .0) same ∙ q)) in
         let unused : inUse used (followedBy f v) ≡ false = ap (inUse used) (sym same) ∙ a .2 in
         true≢false (sym (rw (there, unused)) ∙ e);
   }
@@ -206,7 +206,7 @@ module _ (s : State) (t : ThreadNo) where
   waiting (at19 e h) f g k = g e h
   waiting (at23 e h) f g k = k e h
 
-  pub judges12 : (w : Wait) → T (waitsAt w (line s t)) → Reflects (waitNumber w when mustStay w (flag s) (nodeAt s (followed (threadAt s t)))) Wait12
+  pub judges12 : (w : Wait) → T (waitsAt w (line s t)) → Reflects (waitNumber w if mustStay w (flag s) (nodeAt s (followed (threadAt s t)))) Wait12
   judges12 NoWait h = never _ Wait12 (λ a. waiting a (λ e z. at (waitsAt NoWait) h e) (λ e z. at (waitsAt NoWait) h e) (λ e z. at (waitsAt NoWait) h e))
   judges12 ForFlag h = record {
     holds = λ e. (at16 (eqb→eq (line s t) 16 h) (eqb-false _ _ (not-true _ e)), refl);

@@ -23,7 +23,7 @@ use Rattle.lock.specs.State.{_⟨flag≔_⟩, _⟨locked≔_⟩, _⟨low≔_⟩
 use Rattle.lock.specs.Valid.{Between, NodeRange, SharedRange, ThreadRange, Valid}
 use Rattle.lock.specs.declared.State.{State}
 use Rattle.lock.specs.declared.Thread.{Thread}
-use Rattle.number.specs.Numbers.{behind, isNone, node, none, same, thread}
+use Rattle.number.specs.Numbers.{behind, isBottom, node, bottom, same, thread}
 use Rattle.number.specs.Tests.{neither-holds}
 use Rattle.number.specs.declared.NodeNo.{NodeNo}
 use Rattle.number.specs.declared.ThreadNo.{ThreadNo}
@@ -52,7 +52,7 @@ pub record Kept (before w : Window) : Type 0 where
 perform-kept : (a : Act) (w : Window) (n : NodeNo) → badNode (counts a) (w .shared .nodes) n ≡ false → Room (counts a) w → InRange w → Kept w (perform a w n)
 unfolding perform
 perform-kept Choose w n b r i =
-    let n≤K : n .0 ≤ w .shared .nodes = ltb-false _ _ (neither-holds (isNone n) _ b .1) in
+    let n≤K : n .0 ≤ w .shared .nodes = ltb-false _ _ (neither-holds (isBottom n) _ b .1) in
     let fits : putIn (w .shared .used) n < 2 ^ w .shared .nodes = put-fits _ _ n (i .shared .used) n≤K in
     omega arith
 perform-kept ClearNext w n b r i = omega arith
@@ -64,7 +64,7 @@ perform-kept LinkPrev w n b r i = omega arith
 perform-kept ReadNext w n b r i = omega arith
 perform-kept CloseTail w n b r i = go (same (w .shared .tail) (w .thread .my))
   where
-    go : (t : Bool) → Kept w (window (w .shared ⟨tail≔ cond t none (w .shared .tail) ⟩) (w .thread) (w .node))
+    go : (t : Bool) → Kept w (window (w .shared ⟨tail≔ cond t bottom (w .shared .tail) ⟩) (w .thread) (w .node))
     go true = omega arith
     go false = omega arith
 perform-kept SendMess w n b r i = omega arith
@@ -72,7 +72,7 @@ perform-kept Release w n b r i =
     let fits : takeOut (w .shared .used) (w .thread .my) < 2 ^ w .shared .nodes = take-fits _ _ (w .thread .my) (i .shared .used) in
     omega arith
 perform-kept TakeMess w n b r i = omega arith
-perform-kept PassOn w n b r i = go (isNone (w .thread .succ))
+perform-kept PassOn w n b r i = go (isBottom (w .thread .succ))
   where
     go : (t : Bool)
         → let sh = w .shared ⟨low≔ behind (w .shared .low) ⟩ in

@@ -16,7 +16,7 @@ use Rattle.lock.specs.Laws.{nth-set-same, set-same, set-twice}
 use Rattle.lock.specs.State.{_⟨flag≔_⟩, _⟨line≔_⟩, _⟨locked≔_⟩, _⟨low≔_⟩, _⟨shared≔_⟩, _⟨tail≔_⟩, nodeAt, threadAt}
 use Rattle.lock.specs.declared.State.{State}
 use Rattle.lock.specs.declared.Thread.{Thread}
-use Rattle.number.specs.Numbers.{behind, isNone, none, same}
+use Rattle.number.specs.Numbers.{behind, isBottom, bottom, same}
 use Rattle.number.specs.Tests.{neither-holds}
 use Rattle.number.specs.declared.NodeNo.{NodeNo}
 use Rattle.number.specs.declared.ThreadNo.{ThreadNo}
@@ -39,7 +39,7 @@ module _ (s : State) (t : ThreadNo) where
 
   -- 22, by whether tail is my
   pub closes : (b : Bool)
-      → s ⟨shared≔ s .shared ⟨tail≔ cond b none (tail s) ⟩ ⟩ ⟪line t ≔ cond b 25 23 ⟫ ≡ cond b (s ⟪tail≔ none ⟫ ⟪line t ≔ 25 ⟫) (s ⟪line t ≔ 23 ⟫)
+      → s ⟨shared≔ s .shared ⟨tail≔ cond b bottom (tail s) ⟩ ⟩ ⟪line t ≔ cond b 25 23 ⟫ ≡ cond b (s ⟪tail≔ bottom ⟫ ⟪line t ≔ 25 ⟫) (s ⟪line t ≔ 23 ⟫)
   closes true = refl
   closes false = refl
 
@@ -128,7 +128,7 @@ module _ (s : State) (t : ThreadNo) (n : NodeNo) (from : 1 ≤ t .0) (to : t .0 
 
   leads29 : Leads 29
   unfolding lineAt perform moved
-  leads29 e c = line29 e (passes s t (isNone (succ s t)))
+  leads29 e c = line29 e (passes s t (isBottom (succ s t)))
 
   pub leads : (l : ℕ) → 11 ≤ l → l ≤ 29 → Leads l
   leads =
@@ -203,4 +203,4 @@ module _ (s : State) (t : ThreadNo) (n : NodeNo) (from : 1 ≤ t .0) (to : t .0 
   ends s′ (line26 e q) = q ∙ sym (simp stores) ∙ there 26 e
   ends s′ (line27 e q) = q ∙ there 27 e
   ends s′ (line28 e q) = q ∙ sym (simp stores) ∙ there 28 e
-  ends s′ (line29 e q) = q ∙ sym (passes s t (isNone (succ s t))) ∙ there 29 e
+  ends s′ (line29 e q) = q ∙ sym (passes s t (isBottom (succ s t))) ∙ there 29 e
