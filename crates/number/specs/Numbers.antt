@@ -1,4 +1,4 @@
--- A thread number, a node number and a place in the queue, "three separate quantities": three types, so that one is never taken for another.
+-- A thread number, a node number and a place in the queue, "three separate quantities: a 3 in one is never read as a 3 in another": three types.
 -- Assumes nothing.
 use mathlib.Core.Bool.{Bool}
 use Prim.Native.Nat.{ℕ, _+_}
@@ -7,12 +7,15 @@ use Rattle.number.specs.declared.ThreadNo.{ThreadNo}
 use Rattle.number.specs.declared.NodeNo.{NodeNo}
 use Rattle.number.specs.declared.Place.{Place}
 
+-- "numbered from 1 .. thread 0 does not exist"
 abbrev pub thread : ℕ → ThreadNo
 thread k = record { 0 = k }
 
+-- "numbered from 1"
 abbrev pub node : ℕ → NodeNo
 node k = record { 0 = k }
 
+-- "a place in the queue": low, high and slot
 abbrev pub place : ℕ → Place
 place k = record { 0 = k }
 
