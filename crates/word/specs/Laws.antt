@@ -33,8 +33,8 @@ fails false = refl
 -- ---- a node and its bit
 
 -- a node that has a bit is one of 1 to 32
-range : (k : NodeNo) → hasBit k ≡ true → (1 ≤ k .0) × (k .0 ≤ mostNodes)
-range k h = (leb-true _ _ (first-holds _ _ h), leb-true _ _ (second-holds (leb 1 (k .0)) _ h))
+bit-range : (k : NodeNo) → hasBit k ≡ true → (1 ≤ k .0) × (k .0 ≤ mostNodes)
+bit-range k h = (leb-true _ _ (first-holds _ _ h), leb-true _ _ (second-holds (leb 1 (k .0)) _ h))
 
 -- a node that has a bit is in use where the bit is 1
 in-set : (w : ℕ) (k : NodeNo) → hasBit k ≡ true → bit w (k .0 - 1) ≡ 1 → inUse w k ≡ true
@@ -64,7 +64,7 @@ alone-case P k f z = go (hasBit k) refl
 
 -- it is below 2 ^ m, where k is at most m or has no bit
 alone-fits : (k : NodeNo) (m : ℕ) → (hasBit k ≡ true → k .0 ≤ m) → aloneIn k < 2 ^ m
-alone-fits k m f = alone-case (λ x. x < 2 ^ m) k (λ h. let r = range k h in let l = f h in pow-lt (omega arith)) (pow-pos m)
+alone-fits k m f = alone-case (λ x. x < 2 ^ m) k (λ h. let r = bit-range k h in let l = f h in pow-lt (omega arith)) (pow-pos m)
 
 -- its bit k - 1 is 1
 alone-same : (k : NodeNo) → hasBit k ≡ true → bit (aloneIn k) (k .0 - 1) ≡ 1
@@ -75,15 +75,15 @@ alone-same k h = rw h (bit-pow-same (k .0 - 1))
 alone-other : (k j : NodeNo) → j .0 ≢ k .0 → hasBit j ≡ true → bit (aloneIn k) (j .0 - 1) ≡ 0
 alone-other k j n g =
     alone-case (λ x. bit x (j .0 - 1) ≡ 0) k
-    (λ h. let r = range k h in let s = range j g in bit-pow-other (k .0 - 1) (j .0 - 1) (omega arith))
+    (λ h. let r = bit-range k h in let s = bit-range j g in bit-pow-other (k .0 - 1) (j .0 - 1) (omega arith))
     (bit-zero (j .0 - 1))
 
 -- a bit of w with node k taken out: 0 where the word of node k alone has a 1, and otherwise what it was
 take-bit : (w : ℕ) (j k : NodeNo) → hasBit j ≡ true → bit (takeOut w k) (j .0 - 1) ≡ min (bit w (j .0 - 1)) (1 - bit (aloneIn k) (j .0 - 1))
 unfolding takeOut
 take-bit w j k h =
-    let r = range j h in
-    let l = alone-fits k 32 (λ g. range k g .1) in
+    let r = bit-range j h in
+    let l = alone-fits k 32 (λ g. bit-range k g .1) in
     let e = bit-not 32 (aloneIn k) (j .0 - 1) (omega arith) l in
     rw (bit-and w (2 ^ 32 - 1 - aloneIn k) (j .0 - 1)) (omega arith)
 
@@ -118,7 +118,7 @@ has-bit k a b = rw (le-leb 1 (k .0) a, le-leb (k .0) mostNodes b)
 -- A node in use is one of 1 to 32.
 pub in-has-bit : (w : ℕ) (k : NodeNo) → inUse w k ≡ true → (1 ≤ k .0) × (k .0 ≤ mostNodes)
 unfolding inUse
-in-has-bit w k h = range k (first-holds _ _ h)
+in-has-bit w k h = bit-range k (first-holds _ _ h)
 
 -- A word with no bit from m up is below 2 ^ m.
 pub none-from : (w m : ℕ) → noneFrom w m ≡ true → w < 2 ^ m
@@ -174,7 +174,7 @@ module _ (u w : ℕ) (k : NodeNo) (other : (j : NodeNo) → j .0 ≢ k .0 → in
 -- Putting in a node that was not in use makes one more.
 pub how-many-put : (w : ℕ) (k : NodeNo) → hasBit k ≡ true → inUse w k ≡ false → howMany (putIn w k) ≡ suc (howMany w)
 how-many-put w k h f =
-    let r = range k h in
+    let r = bit-range k h in
     one-more w (putIn w k) k (λ j n. in-put-other w j k n) f (in-put-same w k h) (r .0) mostNodes (r .1)
 
 -- Taking out a node that was in use makes one fewer.

@@ -81,8 +81,8 @@ module _ (s : State) (t : ThreadNo) (n : NodeNo) where
       × Where (eqb l 23) (next s (my s t) .0 ≢ 0)
 
   -- said of the line's number, and so of the thread's line
-  of : (l : ℕ) → line s t ≡ l → Asks l → Asks (line s t)
-  of l e a = subst Asks (sym e) a
+  said-of : (l : ℕ) → line s t ≡ l → Asks l → Asks (line s t)
+  said-of l e a = subst Asks (sym e) a
 
   at : (l : ℕ) → line s t ≡ l → Asks (line s t) → Asks l
   at l e a = subst Asks e a
@@ -91,25 +91,25 @@ module _ (s : State) (t : ThreadNo) (n : NodeNo) where
   nothing = (tt, tt, tt, tt)
 
   asks : (s′ : State) → Figure t n s s′ → Asks (line s t)
-  asks s′ (line11 e a b q) = of 11 e ((a, b), tt, tt, tt)
-  asks s′ (line12 e q) = of 12 e nothing
-  asks s′ (line13 e q) = of 13 e nothing
-  asks s′ (line14 e q) = of 14 e nothing
-  asks s′ (line15 e q) = of 15 e nothing
-  asks s′ (line16 e a q) = of 16 e (tt, a, tt, tt)
-  asks s′ (line17 e q) = of 17 e nothing
-  asks s′ (line18 e q) = of 18 e nothing
-  asks s′ (line19 e a q) = of 19 e (tt, tt, a, tt)
-  asks s′ (line20 e q) = of 20 e nothing
-  asks s′ (line21 e q) = of 21 e nothing
-  asks s′ (line22 e q) = of 22 e nothing
-  asks s′ (line23 e a q) = of 23 e (tt, tt, tt, a)
-  asks s′ (line24 e q) = of 24 e nothing
-  asks s′ (line25 e q) = of 25 e nothing
-  asks s′ (line26 e q) = of 26 e nothing
-  asks s′ (line27 e q) = of 27 e nothing
-  asks s′ (line28 e q) = of 28 e nothing
-  asks s′ (line29 e q) = of 29 e nothing
+  asks s′ (line11 e a b q) = said-of 11 e ((a, b), tt, tt, tt)
+  asks s′ (line12 e q) = said-of 12 e nothing
+  asks s′ (line13 e q) = said-of 13 e nothing
+  asks s′ (line14 e q) = said-of 14 e nothing
+  asks s′ (line15 e q) = said-of 15 e nothing
+  asks s′ (line16 e a q) = said-of 16 e (tt, a, tt, tt)
+  asks s′ (line17 e q) = said-of 17 e nothing
+  asks s′ (line18 e q) = said-of 18 e nothing
+  asks s′ (line19 e a q) = said-of 19 e (tt, tt, a, tt)
+  asks s′ (line20 e q) = said-of 20 e nothing
+  asks s′ (line21 e q) = said-of 21 e nothing
+  asks s′ (line22 e q) = said-of 22 e nothing
+  asks s′ (line23 e a q) = said-of 23 e (tt, tt, tt, a)
+  asks s′ (line24 e q) = said-of 24 e nothing
+  asks s′ (line25 e q) = said-of 25 e nothing
+  asks s′ (line26 e q) = said-of 26 e nothing
+  asks s′ (line27 e q) = said-of 27 e nothing
+  asks s′ (line28 e q) = said-of 28 e nothing
+  asks s′ (line29 e q) = said-of 29 e nothing
 
   -- what the figure allows does not wait
   goes : Asks (line s t) → Waits s t → ⊥
@@ -124,7 +124,7 @@ module _ (s : State) (t : ThreadNo) (n : NodeNo) where
     (
       (λ h. h (p .thread)),
       (
-        ⊎-elim (λ h. let some : n .0 ≢ 0 = at 11 (h .0) a .0 .0 in h .1 (record { from = omega arith; to = p .within (h .0) })) (λ h. h .1 (p .named (h .0))),
+        ⊎-elim (λ h. let not-zero : n .0 ≢ 0 = at 11 (h .0) a .0 .0 in h .1 (record { from = omega arith; to = p .within (h .0) })) (λ h. h .1 (p .named (h .0))),
         (
           (λ h. omega (arith, h .1, p .entries (h .0))),
           (

@@ -25,7 +25,7 @@ use Rattle.step.specs.declared.Stepped.{Stepped}
 pub in-table : (threads : ℕ) (t : ThreadNo) → noThread threads t ≡ false → Between 1 (t .0) threads
 in-table threads t h =
     let r = neither-holds (eqb (t .0) 0) (ltb threads (t .0)) h in
-    let some : t .0 ≢ 0 = eqb-false _ _ (r .0) in
+    let not-zero : t .0 ≢ 0 = eqb-false _ _ (r .0) in
     record { from = omega arith; to = ltb-false _ _ (r .1) }
 
 -- ---- an event in a judged state: it is refused, or the line is executed

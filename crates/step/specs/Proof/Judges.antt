@@ -64,7 +64,7 @@ module _ (s : State) (t : ThreadNo) (n : NodeNo) where
         holds = λ e.
             (inl (e11, λ b. either-holds (isBottom n) (ltb K (n .0)) e (λ z. omega (arith, eqb-true (n .0) 0 z)) (λ z. omega (arith, ltb-true K (n .0) z))), refl);
         fails = λ e.
-            let some : n .0 ≢ 0 = eqb-false _ _ (neither-holds (isBottom n) _ e .0) in
+            let not-zero : n .0 ≢ 0 = eqb-false _ _ (neither-holds (isBottom n) _ e .0) in
             let within : n .0 ≤ K = ltb-false _ _ (neither-holds (isBottom n) _ e .1) in
             ⊎-elim (λ h. h .1 (record { from = omega arith; to = within })) (λ h. h .0 e11);
       }
@@ -138,13 +138,13 @@ module _ (v : Thread) where
   only Succ h k (succ-at a b e) = e
 
   -- .. and is not 0 where refusal 9 does not apply
-  some : (f : Follow) → T (followsAt f (v .line)) → followsEmpty f (followedBy f v) ≡ false → (k : NodeNo) → Follows v k → k .0 ≢ 0
-  some NoNode h z k d = absurd (nothing k h d)
-  some My h z k d = λ e. eqb-false _ _ z (ap (λ (x : NodeNo). x .0) (sym (only My h k d)) ∙ e)
-  some Prev h z k d = λ e. eqb-false _ _ z (ap (λ (x : NodeNo). x .0) (sym (only Prev h k d)) ∙ e)
-  some Succ h z k (my-at a e) = absurd (at (followsAt My) a (eqb→eq (v .line) 29 h))
-  some Succ h z k (prev-at a e) = absurd (at (followsAt Succ) h a)
-  some Succ h z k (succ-at a b e) = λ q. b (ap (λ (x : NodeNo). x .0) (sym e) ∙ q)
+  not-zero : (f : Follow) → T (followsAt f (v .line)) → followsEmpty f (followedBy f v) ≡ false → (k : NodeNo) → Follows v k → k .0 ≢ 0
+  not-zero NoNode h z k d = absurd (nothing k h d)
+  not-zero My h z k d = λ e. eqb-false _ _ z (ap (λ (x : NodeNo). x .0) (sym (only My h k d)) ∙ e)
+  not-zero Prev h z k d = λ e. eqb-false _ _ z (ap (λ (x : NodeNo). x .0) (sym (only Prev h k d)) ∙ e)
+  not-zero Succ h z k (my-at a e) = absurd (at (followsAt My) a (eqb→eq (v .line) 29 h))
+  not-zero Succ h z k (prev-at a e) = absurd (at (followsAt Succ) h a)
+  not-zero Succ h z k (succ-at a b e) = λ q. b (ap (λ (x : NodeNo). x .0) (sym e) ∙ q)
 
   -- the node that the row names is followed, if it is not 0
   pub follows : (f : Follow) → T (followsAt f (v .line)) → followedBy f v .0 ≢ 0 → Follows v (followedBy f v)
@@ -161,14 +161,14 @@ module _ (v : Thread) where
       → Reflects (followedEmpty if followsEmpty f (followedBy f v)) Empty
   empty f h d q = record {
     holds = λ e. ((followedBy f v, d, eqb-true _ _ (sym q ∙ e)), refl);
-    fails = λ e a. some f h e (a .0) (a .1) (a .2);
+    fails = λ e a. not-zero f h e (a .0) (a .1) (a .2);
   }
 
   pub judges9 : (f : Follow) → T (followsAt f (v .line)) → Reflects (followedEmpty if followsEmpty f (followedBy f v)) Empty
   judges9 NoNode h = never _ Empty (λ a. nothing (a .0) h (a .1))
   judges9 My h = empty My h (my-at h refl) refl
   judges9 Prev h = empty Prev h (prev-at (eqb→eq (v .line) 18 h) refl) refl
-  judges9 Succ h = never _ Empty (λ a. some Succ h refl (a .0) (a .1) (a .2))
+  judges9 Succ h = never _ Empty (λ a. not-zero Succ h refl (a .0) (a .1) (a .2))
 
   -- 10, where 9 does not apply
   pub judges10 : (used : ℕ) (f : Follow) → T (followsAt f (v .line)) → followsEmpty f (followedBy f v) ≡ false
@@ -180,7 +180,7 @@ module _ (v : Thread) where
         ((k, follows f h there, not-true _ (second-holds (not (isBottom k)) _ e)), refl);
     fails = λ e a.
         let same = only f h (a .0) (a .1) in
-        let there : isBottom (followedBy f v) ≡ false = ne-eqb _ _ (λ q. some f h z (a .0) (a .1) (ap (λ (x : NodeNo). x .0) same ∙ q)) in
+        let there : isBottom (followedBy f v) ≡ false = ne-eqb _ _ (λ q. not-zero f h z (a .0) (a .1) (ap (λ (x : NodeNo). x .0) same ∙ q)) in
         let unused : inUse used (followedBy f v) ≡ false = ap (inUse used) (sym same) ∙ a .2 in
         true≢false (sym (rw (there, unused)) ∙ e);
   }
