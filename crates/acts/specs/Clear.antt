@@ -59,10 +59,6 @@ clear w r k n h =
       go = waited (r .wait) (sh .flag) (w .node) (r11 .1);
     }
 
-pub cleared : (w : Window) (r : Line) (k n : NodeNo) → Clear w r k n → refusal w r k n ≡ 0
-unfolding refusal
-cleared w r k n c = rw (c .node, c .entry, c .free, c .there, c .used, c .place, c .go)
-
 -- the limits that are not met leave room
 room : (c : Count) (w : Window) → noEntry c (w .shared .entered) ≡ false → noPlace c (w .shared .high) (w .shared .low) ≡ false → Room c w
 room Nothing w e p = tt

@@ -4,3 +4,4 @@ pub mod Case
 pub mod Cases
 pub mod SameRun
 pub mod Useless
+pub mod Shortcut

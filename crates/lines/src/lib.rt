@@ -67,11 +67,11 @@ pub struct Window {
     pub node: Node,
 }
 
-// Lines 11 to 29; beside each stands what document 01 says that it does.
+// Lines 11 to 29; beside each stands what document 01 says that it does, and which node it follows.
 const LINES: [Line; 19] = [
     Line {
         act: Act::Choose, // 11 | my := the event's node, put in use; entered + 1
-        follow: Follow::NoNode,
+        follow: Follow::NoNode, // none at 11
         wait: Wait::NoWait,
         look: Look::Straight,
         goes: 12,
@@ -79,7 +79,7 @@ const LINES: [Line; 19] = [
     },
     Line {
         act: Act::ClearNext, // 12 | next(my) := 0
-        follow: Follow::My,
+        follow: Follow::My, // my at 12
         wait: Wait::NoWait,
         look: Look::Straight,
         goes: 13,
@@ -87,7 +87,7 @@ const LINES: [Line; 19] = [
     },
     Line {
         act: Act::SetLocked, // 13 | locked(my) := 1
-        follow: Follow::My,
+        follow: Follow::My, // my at 13
         wait: Wait::NoWait,
         look: Look::Straight,
         goes: 14,
@@ -95,7 +95,7 @@ const LINES: [Line; 19] = [
     },
     Line {
         act: Act::Exchange, // 14 | prev := tail; tail := my; slot := high; high + 1
-        follow: Follow::NoNode,
+        follow: Follow::NoNode, // none at 14
         wait: Wait::NoWait,
         look: Look::Straight,
         goes: 15,
@@ -103,7 +103,7 @@ const LINES: [Line; 19] = [
     },
     Line {
         act: Act::Stay, // 15 | looks at prev
-        follow: Follow::NoNode,
+        follow: Follow::NoNode, // none at 15
         wait: Wait::NoWait,
         look: Look::AtPrev,
         goes: 16,
@@ -111,7 +111,7 @@ const LINES: [Line; 19] = [
     },
     Line {
         act: Act::Stay, // 16 | waits until flag is 1
-        follow: Follow::NoNode,
+        follow: Follow::NoNode, // none at 16
         wait: Wait::ForFlag,
         look: Look::Straight,
         goes: 17,
@@ -119,7 +119,7 @@ const LINES: [Line; 19] = [
     },
     Line {
         act: Act::LowerFlag, // 17 | flag := 0
-        follow: Follow::NoNode,
+        follow: Follow::NoNode, // none at 17
         wait: Wait::NoWait,
         look: Look::Straight,
         goes: 20,
@@ -127,7 +127,7 @@ const LINES: [Line; 19] = [
     },
     Line {
         act: Act::LinkPrev, // 18 | next(prev) := my
-        follow: Follow::Prev,
+        follow: Follow::Prev, // prev at 18
         wait: Wait::NoWait,
         look: Look::Straight,
         goes: 19,
@@ -135,7 +135,7 @@ const LINES: [Line; 19] = [
     },
     Line {
         act: Act::Stay, // 19 | waits until locked(my) is 0
-        follow: Follow::My,
+        follow: Follow::My, // my at 19
         wait: Wait::ForUnlock,
         look: Look::Straight,
         goes: 20,
@@ -143,7 +143,7 @@ const LINES: [Line; 19] = [
     },
     Line {
         act: Act::ReadNext, // 20 | nxmy and succ := next(my)
-        follow: Follow::My,
+        follow: Follow::My, // my at 20
         wait: Wait::NoWait,
         look: Look::Straight,
         goes: 21,
@@ -151,7 +151,7 @@ const LINES: [Line; 19] = [
     },
     Line {
         act: Act::Stay, // 21 | looks at succ
-        follow: Follow::NoNode,
+        follow: Follow::NoNode, // none at 21
         wait: Wait::NoWait,
         look: Look::AtSucc,
         goes: 22,
@@ -159,7 +159,7 @@ const LINES: [Line; 19] = [
     },
     Line {
         act: Act::CloseTail, // 22 | if tail = my then tail := 0
-        follow: Follow::NoNode,
+        follow: Follow::NoNode, // none at 22
         wait: Wait::NoWait,
         look: Look::AtTail,
         goes: 25,
@@ -167,7 +167,7 @@ const LINES: [Line; 19] = [
     },
     Line {
         act: Act::Stay, // 23 | waits until next(my) is not 0
-        follow: Follow::My,
+        follow: Follow::My, // my at 23
         wait: Wait::ForLink,
         look: Look::Straight,
         goes: 24,
@@ -175,7 +175,7 @@ const LINES: [Line; 19] = [
     },
     Line {
         act: Act::ReadNext, // 24 | nxmy and succ := next(my)
-        follow: Follow::My,
+        follow: Follow::My, // my at 24
         wait: Wait::NoWait,
         look: Look::Straight,
         goes: 25,
@@ -183,7 +183,7 @@ const LINES: [Line; 19] = [
     },
     Line {
         act: Act::SendMess, // 25 | mess := succ
-        follow: Follow::NoNode,
+        follow: Follow::NoNode, // none at 25
         wait: Wait::NoWait,
         look: Look::Straight,
         goes: 26,
@@ -191,7 +191,7 @@ const LINES: [Line; 19] = [
     },
     Line {
         act: Act::Release, // 26 | succ := 0; my is no longer in use (the number stays)
-        follow: Follow::My,
+        follow: Follow::My, // my at 26
         wait: Wait::NoWait,
         look: Look::Straight,
         goes: 27,
@@ -199,7 +199,7 @@ const LINES: [Line; 19] = [
     },
     Line {
         act: Act::Stay, // 27 | the critical section
-        follow: Follow::NoNode,
+        follow: Follow::NoNode, // none at 27
         wait: Wait::NoWait,
         look: Look::Straight,
         goes: 28,
@@ -207,7 +207,7 @@ const LINES: [Line; 19] = [
     },
     Line {
         act: Act::TakeMess, // 28 | succ := mess
-        follow: Follow::NoNode,
+        follow: Follow::NoNode, // none at 28
         wait: Wait::NoWait,
         look: Look::Straight,
         goes: 29,
@@ -215,7 +215,7 @@ const LINES: [Line; 19] = [
     },
     Line {
         act: Act::PassOn, // 29 | if succ is not 0, locked(succ) := 0, else flag := 1; low + 1
-        follow: Follow::Succ,
+        follow: Follow::Succ, // succ at 29, where it is not 0
         wait: Wait::NoWait,
         look: Look::Straight,
         goes: 11,

@@ -1,5 +1,5 @@
 -- The refusal numbers, in the order of document 01's table, each with the table's own words. Assumes nothing.
--- Numbers 2 and 4 join with the calls that take a schedule or a lent output.
+-- Numbers 2 and 4, and what 3 and 6 say of schedules and chains besides, join with the calls that take those.
 use Prim.Native.Nat.{ℕ}
 
 -- "Success is 0."

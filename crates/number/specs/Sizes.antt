@@ -1,4 +1,4 @@
--- Document 01, "What the tool covers", the paragraph on sizes. Assumes nothing.
+-- Document 01: the paragraph on sizes of "What the tool covers", and the ends of the ranges of "Saved state". Assumes nothing.
 use Prim.Native.Nat.{ℕ}
 
 -- "T threads, 1 to 32, numbered from 1."

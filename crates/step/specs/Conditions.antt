@@ -1,5 +1,5 @@
 -- Document 01, "Refusal numbers", for a step: 1 and 5 to 12, each condition in the document's own words and by its own line numbers (and not by the
--- table of lines), over the whole state. ExactlyWhen of Theorems.antt says that a step's answer is the first that applies. Assumes nothing.
+-- table of lines), over the whole state. `exactly-when` of Theorems.antt says that a step's answer is the first that applies. Assumes nothing.
 use mathlib.Core.Bool.{Bool, false, true, _||_}
 use mathlib.Core.List.{List, [], _∷_}
 use mathlib.Core.Logic.{_≢_, _⊎_}

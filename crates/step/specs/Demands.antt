@@ -1,18 +1,18 @@
--- Demand 2 for a step, as statements about any tool that is offered as one: what it is for such a tool to be sound and complete against Figure 1.
--- Theorems.antt proves that our step is both. Assumes nothing.
+-- Demands 1 and 2 for a step, as statements about any tool that is offered as one: that its answers are document 01's, that a refusal leaves the state
+-- alone, and that it is sound and complete against Figure 1. Theorems.antt proves them of our step, and that they leave no second tool. Assumes nothing.
 use mathlib.Core.Bool.{true}
-use mathlib.Core.Logic.{_≢_}
+use mathlib.Core.Logic.{_≢_, _↔_}
 use mathlib.Core.Path.{_≡_}
-use Prim.Native.Nat.{_≤_, _<_}
+use Prim.Native.Nat.{ℕ, _≤_, _<_}
 use Rattle.figure.specs.Figure.{Figure, entered, high, line, local, low}
 use Rattle.lock.specs.State.{threadAt}
-use Rattle.lock.specs.Valid.{Between, Valid}
+use Rattle.lock.specs.Valid.{Between, Sized, Valid}
 use Rattle.lock.specs.declared.State.{State}
 use Rattle.number.specs.Refused.{done}
 use Rattle.number.specs.Sizes.{lastPlace, mostEntries}
 use Rattle.number.specs.declared.NodeNo.{NodeNo}
 use Rattle.number.specs.declared.ThreadNo.{ThreadNo}
-use Rattle.step.specs.Conditions.{Follows}
+use Rattle.step.specs.Conditions.{First, Follows, conditions}
 use Rattle.step.specs.Step.{stepped}
 use Rattle.step.specs.declared.Stepped.{Stepped}
 use Rattle.word.specs.Word.{inUse}
@@ -20,6 +20,16 @@ use Rattle.word.specs.Word.{inUse}
 -- what is offered as a step: a number and a state for every state, thread and node
 abbrev pub Tool : Type 0
 Tool = State → ThreadNo → NodeNo → Stepped
+
+-- ---- demand 1
+
+-- The answer is the number of the first condition of document 01 that applies, and 0 if none does.
+abbrev pub Exact : Tool → Type 0
+Exact tool = (s : State) (t : ThreadNo) (n : NodeNo) → Sized s → (m : ℕ) → (tool s t n .answer ≡ m) ↔ First (conditions s t n) m
+
+-- A refused step leaves the state unchanged, whatever the state, valid or not.
+abbrev pub Unchanged : Tool → Type 0
+Unchanged tool = (s : State) (t : ThreadNo) (n : NodeNo) → tool s t n .answer ≢ done → tool s t n .state ≡ s
 
 -- ---- demand 2
 

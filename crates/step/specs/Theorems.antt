@@ -2,7 +2,6 @@
 use mathlib.Core.List.{List, _∷_, _++_}
 use mathlib.Core.Logic.{_≢_, _↔_}
 use mathlib.Core.Path.{_≡_}
-use Prim.Native.Nat.{ℕ}
 use Rattle.lock.specs.State.{nodeAt, threadAt}
 use Rattle.lock.specs.Valid.{Sized, Valid}
 use Rattle.lock.specs.declared.State.{State}
@@ -10,14 +9,14 @@ use Rattle.number.specs.OneResult.{only}
 use Rattle.number.specs.Refused.{done}
 use Rattle.number.specs.declared.NodeNo.{NodeNo}
 use Rattle.number.specs.declared.ThreadNo.{ThreadNo}
-use Rattle.step.specs.Conditions.{Condition, First, Follows, NoneApply, conditions}
+use Rattle.step.specs.Conditions.{Condition, Follows, NoneApply, conditions}
 use Rattle.step.specs.Proof.Answer
 use Rattle.step.specs.Proof.Against
 use Rattle.step.specs.Proof.Exactly
 use Rattle.step.specs.Proof.Stays
 use Rattle.step.specs.Step.{step}
 use Rattle.step.specs.declared.Stepped.{Stepped}
-pub use Rattle.step.specs.Demands.{Complete, Possible, Sound, Tool}
+pub use Rattle.step.specs.Demands.{Complete, Exact, Possible, Sound, Tool, Unchanged}
 
 -- From a valid state, an accepted step is a step of Figure 1 by that thread and node.
 pub sound : Sound step
@@ -28,7 +27,7 @@ pub complete : Complete step
 complete = Against.complete
 
 -- The answer is the number of the first condition of document 01 that applies, and 0 exactly when none does.
-pub exactly-when : (s : State) (t : ThreadNo) (n : NodeNo) → Sized s → (m : ℕ) → (step s t n .answer ≡ m) ↔ First (conditions s t n) m
+pub exactly-when : Exact step
 exactly-when = Exactly.exactly-when
 
 -- So 0 is given exactly when no condition applies ..
@@ -41,7 +40,7 @@ pub given-exactly : (s : State) (t : ThreadNo) (n : NodeNo) → Sized s → (bef
 given-exactly = Exactly.given-exactly
 
 -- A refused step leaves the state unchanged, whatever the state, valid or not.
-pub refused-unchanged : (s : State) (t : ThreadNo) (n : NodeNo) → step s t n .answer ≢ done → step s t n .state ≡ s
+pub refused-unchanged : Unchanged step
 refused-unchanged = Answer.unchanged
 
 -- "Nothing else changes in a step": whatever the event, every other thread is as it was ..
@@ -59,6 +58,11 @@ valid-kept = Against.valid-kept
 -- Two results that both meet the step's promise are equal.
 pub step-one-result : (s : State) (t : ThreadNo) (n : NodeNo) (r r′ : Stepped) → r ≡ step s t n → r′ ≡ step s t n → r ≡ r′
 step-one-result s t n r r′ = only
+
+-- Demands 1 and 2 leave no second tool: one whose answers are document 01's, whose refusals leave the state alone, and which is complete, is our step.
+pub no-second-tool : (tool : Tool) → Exact tool → Unchanged tool → Complete tool
+    → (s : State) (t : ThreadNo) (n : NodeNo) → Sized s → tool s t n ≡ step s t n
+no-second-tool = Against.no-second-tool
 
 -- A complete tool does what our step does, wherever our step accepts.
 pub complete-same : (tool : Tool) → Complete tool → (s : State) (t : ThreadNo) (n : NodeNo) → Valid s → step s t n .answer ≡ done → tool s t n ≡ step s t n

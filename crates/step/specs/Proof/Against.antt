@@ -13,8 +13,9 @@ use Rattle.figure.specs.Figure.{Figure, entered, flag, high, line, local, locke
 use Rattle.figure.specs.Figure.Figure.{line11, line12, line13, line14, line15, line16, line17, line18, line19, line20, line21, line22, line23, line24}
 use Rattle.figure.specs.Figure.Figure.{line25, line26, line27, line28, line29}
 use Rattle.lines.specs.Lines.{lineAt}
+use Rattle.lock.specs.Judged.{valid-rule}
 use Rattle.lock.specs.State.{threadAt}
-use Rattle.lock.specs.Valid.{Between, Valid}
+use Rattle.lock.specs.Valid.{Between, Sized, Valid}
 use Rattle.lock.specs.declared.State.{State}
 use Rattle.lock.specs.declared.Thread.{Thread}
 use Rattle.number.specs.Refused.{done}
@@ -23,9 +24,9 @@ use Rattle.number.specs.declared.NodeNo.{NodeNo}
 use Rattle.number.specs.declared.ThreadNo.{ThreadNo}
 use Rattle.step.specs.Conditions.{NoneApply, Waits, conditions}
 use Rattle.step.specs.Conditions.Waits.{at16, at19, at23}
-use Rattle.step.specs.Demands.{Complete, Possible, Sound, Tool}
-use Rattle.step.specs.Proof.Answer.{Accepted, accepted, executes, in-table}
-use Rattle.step.specs.Proof.Exactly.{accepted-exactly}
+use Rattle.step.specs.Demands.{Complete, Exact, Possible, Sound, Tool, Unchanged}
+use Rattle.step.specs.Proof.Answer.{Accepted, accepted, executes, in-table, unchanged}
+use Rattle.step.specs.Proof.Exactly.{accepted-exactly, exactly-when}
 use Rattle.step.specs.Proof.Kept.{after-valid}
 use Rattle.step.specs.Proof.Leads.{ends, leads}
 use Rattle.step.specs.Step.{after, followed, step, stepped, windowOf}
@@ -182,3 +183,21 @@ module _ (s : State) (t : ThreadNo) (n : NodeNo) (rule : Valid s) (h : step s t 
 pub complete-same : (tool : Tool) → Complete tool → (s : State) (t : ThreadNo) (n : NodeNo) → Valid s → step s t n .answer ≡ done → tool s t n ≡ step s t n
 complete-same tool c s t n rule h =
     c s t n (step s t n .state) rule (possible s t n rule h) (sound s t n rule h) ∙ ap (λ (a : ℕ). stepped a (step s t n .state)) (sym h)
+
+-- ---- the demands leave no second tool
+
+-- two results with the same answer and the same state
+both-parts : {r r′ : Stepped} → r .answer ≡ r′ .answer → r .state ≡ r′ .state → r ≡ r′
+both-parts a b = λ i. record { answer = a i; state = b i }
+
+pub no-second-tool : (tool : Tool) → Exact tool → Unchanged tool → Complete tool
+    → (s : State) (t : ThreadNo) (n : NodeNo) → Sized s → tool s t n ≡ step s t n
+no-second-tool tool exact same complete s t n sized = go (ℕ-discrete (step s t n .answer) done)
+  where
+    -- both give the number of the first condition that applies
+    answers : tool s t n .answer ≡ step s t n .answer
+    answers = exact s t n sized (step s t n .answer) .1 (exactly-when s t n sized (step s t n .answer) .0 refl)
+
+    go : Dec (step s t n .answer ≡ done) → tool s t n ≡ step s t n
+    go (yes h) = complete-same tool complete s t n (valid-rule s sized (accepted s t n h .judged)) h
+    go (no h) = both-parts answers (same s t n (λ e. h (sym answers ∙ e)) ∙ sym (unchanged s t n h))
