@@ -1,5 +1,7 @@
 // The numbers that document 01 introduces: the sizes of "What the tool covers", the refusal numbers, and the three quantities
 // that stay separate. Every other crate names them from here. Rests on nothing.
+ghost use mathlib.Core.Bool.{cond};
+ghost use mathlib.Core.Path.{_≡_};
 
 // T threads, 1 to 32, numbered from 1.
 pub const MOST_THREADS: u8 = 32;
@@ -20,7 +22,11 @@ pub const DONE: u8 = 0;
 
 pub const BAD_STATE: u8 = 1;
 
+pub const BAD_SCHEDULE: u8 = 2;
+
 pub const BAD_SIZE: u8 = 3;
+
+pub const TOO_SHORT: u8 = 4;
 
 pub const NO_SUCH_THREAD: u8 = 5;
 
@@ -44,3 +50,10 @@ pub struct ThreadNo(pub u8);
 pub struct NodeNo(pub u8);
 
 pub struct Place(pub u32);
+
+// "The first that applies, in this order, is given": the number where its test holds, else what the later tests give.
+pub fn first(test: bool, number: u8, later: u8) -> u8
+    ensures { λ r. ⌜ r ≡ cond test number later ⌝ }
+{
+    if test { number } else { later }
+}

@@ -1,6 +1,6 @@
 -- Document 01, "Refusal numbers": 6 to 12, in its order, as the step judges them on a line's window. (The same conditions in document 01's own
 -- words, by line numbers, are in Conditions, crate `step`, with the theorem that the two agree.) Assumes nothing.
-use mathlib.Core.Bool.{Bool, cond, false, not, _&&_, _||_}
+use mathlib.Core.Bool.{Bool, false, not, _&&_, _||_}
 use mathlib.Core.List.{List, [], _∷_}
 use Prim.Native.Nat.{ℕ}
 use lib.Dec.{eqb, leb, ltb}
@@ -15,7 +15,7 @@ use Rattle.lines.specs.declared.Wait.the-variants.{ForFlag, ForLink, ForUnlock,
 use Rattle.lines.specs.declared.Window.{Window}
 use Rattle.lock.specs.declared.Node.{Node}
 use Rattle.number.specs.Numbers.{isBottom}
-use Rattle.number.specs.Refused.{done, followedEmpty, followedUnused, mustWait, noEntryLeft, noPlaceLeft, nodeTaken, wrongNode}
+use Rattle.number.specs.Refused.{Refusal, _if_, done, firstOf, followedEmpty, followedUnused, mustWait, noEntryLeft, noPlaceLeft, nodeTaken, wrongNode}
 use Rattle.number.specs.Sizes.{lastPlace, mostEntries}
 use Rattle.number.specs.declared.NodeNo.{NodeNo}
 use Rattle.number.specs.declared.Place.{Place}
@@ -23,7 +23,6 @@ use Rattle.word.specs.Word.{inUse}
 use Rattle.refusals.specs.declared.Count.{Count}
 use Rattle.refusals.specs.declared.Count.the-variants.{Entries, High, Low, Nothing}
 
-infix 68 _if_
 -- ---- what is judged
 
 -- what an act counts up: line 11 the entries, line 14 high, line 29 low
@@ -96,18 +95,6 @@ waitNumber ForUnlock = mustWait
 waitNumber ForLink = mustWait
 
 -- ---- the table of refusals
-
-pub record Refusal : Type 0 where
-  pub number : ℕ
-  pub applies : Bool
-
-abbrev pub _if_ : ℕ → Bool → Refusal
-number if test = record { number = number; applies = test }
-
--- "The first that applies, in this order, is given"; "Success is 0."
-abbrev pub firstOf : List Refusal → ℕ
-firstOf [] = done
-firstOf (r ∷ rs) = cond (r .applies) (r .number) (firstOf rs)
 
 -- the refusals of a window's line that follows node k and is given node n
 abbrev pub refusals : Window → Line → NodeNo → NodeNo → List Refusal

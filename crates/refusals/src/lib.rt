@@ -1,6 +1,5 @@
 // Refusals 6 to 12 of a line's event, judged on the line's window, in the order of document 01: the first that applies is given.
 // (1 and 5 are judged where the state and the thread are known: crate `step`.) Rests on `lines` and the crates below it.
-ghost use mathlib.Core.Bool.{cond};
 ghost use mathlib.Core.Path.{_≡_};
 ghost use Rattle.refusals.specs.Refusals.{badNode, counts, followsEmpty, followsUnused, mustStay, noEntry, noPlace, refusal as refusalOf};
 ghost use Rattle.refusals.specs.Refusals.{takenNode, waitNumber};
@@ -154,13 +153,6 @@ fn wait_number(w: Wait) -> u8
     }
 }
 
-// The number where the test holds, else what the later tests give.
-fn first(test: bool, number: u8, later: u8) -> u8
-    ensures { λ r. ⌜ r ≡ cond test number later ⌝ }
-{
-    if test { number } else { later }
-}
-
 // The first refusal that applies to the window's line, following node k and given node n; 0 if none does.
 pub fn refusal(w: Window, row: Line, k: NodeNo, n: NodeNo) -> u8
     ensures { λ r. ⌜ r ≡ refusalOf w row k n ⌝ }
@@ -171,11 +163,11 @@ pub fn refusal(w: Window, row: Line, k: NodeNo, n: NodeNo) -> u8
     let f = row.follow;
     let wait = row.wait;
     let c = count_of(a);
-    let r12 = first(must_stay(wait, sh.flag, node), wait_number(wait), DONE);
-    let r11 = first(no_place(c, sh.high, sh.low), NO_PLACE_LEFT, r12);
-    let r10 = first(follows_unused(sh.used, k), FOLLOWED_UNUSED, r11);
-    let r9 = first(follows_empty(f, k), FOLLOWED_EMPTY, r10);
-    let r8 = first(taken(c, sh.used, n), NODE_TAKEN, r9);
-    let r7 = first(no_entry(c, sh.entered), NO_ENTRY_LEFT, r8);
-    first(bad_node(c, sh.nodes, n), WRONG_NODE, r7)
+    let r12 = number::first(must_stay(wait, sh.flag, node), wait_number(wait), DONE);
+    let r11 = number::first(no_place(c, sh.high, sh.low), NO_PLACE_LEFT, r12);
+    let r10 = number::first(follows_unused(sh.used, k), FOLLOWED_UNUSED, r11);
+    let r9 = number::first(follows_empty(f, k), FOLLOWED_EMPTY, r10);
+    let r8 = number::first(taken(c, sh.used, n), NODE_TAKEN, r9);
+    let r7 = number::first(no_entry(c, sh.entered), NO_ENTRY_LEFT, r8);
+    number::first(bad_node(c, sh.nodes, n), WRONG_NODE, r7)
 }

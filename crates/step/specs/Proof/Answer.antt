@@ -13,11 +13,11 @@ use Rattle.lock.specs.State.{threadAt}
 use Rattle.lock.specs.Valid.{Between, valid}
 use Rattle.lock.specs.declared.State.{State}
 use Rattle.lock.specs.declared.Thread.{Thread}
-use Rattle.number.specs.Refused.{badState, done, noSuchThread}
+use Rattle.number.specs.Refused.{Refusal, _if_, badState, done, firstOf, noSuchThread}
 use Rattle.number.specs.Tests.{neither-holds}
 use Rattle.number.specs.declared.NodeNo.{NodeNo}
 use Rattle.number.specs.declared.ThreadNo.{ThreadNo}
-use Rattle.refusals.specs.Refusals.{Refusal, _if_, firstOf, refusal, refusals}
+use Rattle.refusals.specs.Refusals.{refusal, refusals}
 use Rattle.step.specs.Step.{advance, advanceBy, after, followed, noThread, refusalOf, step, stepped, windowOf}
 use Rattle.step.specs.declared.Stepped.{Stepped}
 

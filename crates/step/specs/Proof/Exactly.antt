@@ -15,11 +15,11 @@ use Rattle.lock.specs.State.{threadAt}
 use Rattle.lock.specs.Valid.{Between, Sized, Valid, valid}
 use Rattle.lock.specs.declared.State.{State}
 use Rattle.lock.specs.declared.Thread.{Thread}
-use Rattle.number.specs.Refused.{badState, done, noSuchThread}
+use Rattle.number.specs.Refused.{_if_, badState, done, noSuchThread}
 use Rattle.number.specs.Tests.{either-holds}
 use Rattle.number.specs.declared.NodeNo.{NodeNo}
 use Rattle.number.specs.declared.ThreadNo.{ThreadNo}
-use Rattle.refusals.specs.Refusals.{_if_, counts, refusals}
+use Rattle.refusals.specs.Refusals.{counts, refusals}
 use Rattle.step.specs.Conditions.{Condition, First, NoneApply, _given-when_, conditions}
 use Rattle.step.specs.Proof.Answer.{answer-first, in-table, tests}
 use Rattle.step.specs.Proof.FirstThat.{AllReflect, Reflects, Rising, first-none, first-of, first-one, first-this}

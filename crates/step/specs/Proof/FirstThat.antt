@@ -6,8 +6,7 @@ use mathlib.Core.Logic.{_↔_, inl, inr}
 use mathlib.Core.Path.{_≡_, refl, sym, _∙_}
 use Prim.Native.Nat.{ℕ, _≤_, _<_}
 use native.Mathlib.Omega.{arith}
-use Rattle.number.specs.Refused.{done}
-use Rattle.refusals.specs.Refusals.{Refusal, firstOf}
+use Rattle.number.specs.Refused.{Refusal, done, firstOf}
 use Rattle.step.specs.Conditions.{Condition, First, NoneApply}
 
 -- the test says what the condition says

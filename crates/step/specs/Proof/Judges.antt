@@ -18,12 +18,12 @@ use Rattle.lock.specs.Valid.{Between}
 use Rattle.lock.specs.declared.State.{State}
 use Rattle.lock.specs.declared.Thread.{Thread}
 use Rattle.number.specs.Numbers.{isBottom}
-use Rattle.number.specs.Refused.{followedEmpty, followedUnused, mustWait, noEntryLeft, noPlaceLeft, nodeTaken, wrongNode}
+use Rattle.number.specs.Refused.{_if_, followedEmpty, followedUnused, mustWait, noEntryLeft, noPlaceLeft, nodeTaken, wrongNode}
 use Rattle.number.specs.Sizes.{lastPlace, mostEntries}
 use Rattle.number.specs.Tests.{either-holds, first-holds, neither-holds, second-holds}
 use Rattle.number.specs.declared.NodeNo.{NodeNo}
 use Rattle.number.specs.declared.ThreadNo.{ThreadNo}
-use Rattle.refusals.specs.Refusals.{_if_, badNode, followsEmpty, followsUnused, mustStay, noEntry, noPlace, takenNode, waitNumber}
+use Rattle.refusals.specs.Refusals.{badNode, followsEmpty, followsUnused, mustStay, noEntry, noPlace, takenNode, waitNumber}
 use Rattle.refusals.specs.declared.Count.{Count}
 use Rattle.refusals.specs.declared.Count.the-variants.{Entries, High, Low, Nothing}
 use Rattle.word.specs.Word.{inUse}
