@@ -1,8 +1,10 @@
 -- What a case of document 01's "States to try by hand" is, and when a tool passes it. Assumes nothing.
-use mathlib.Core.Bool.{Bool, false, true, _&&_}
+use mathlib.Core.Bool.{Bool, cond, false, true, _&&_}
 use mathlib.Core.List.{List, [], _∷_}
 use Prim.Native.Nat.{ℕ}
 use lib.Dec.{eqb}
+use lib.ListN.{length}
+use Rattle.ask.specs.Ask.{status as statusAsked}
 use Rattle.lock.specs.Fresh.{opened}
 use Rattle.lock.specs.State.{nodeAt, threadAt}
 use Rattle.lock.specs.declared.Opened.{Opened}
@@ -11,8 +13,10 @@ use Rattle.number.specs.Numbers.{node, thread}
 use Rattle.number.specs.Refused.{done}
 use Rattle.number.specs.declared.NodeNo.{NodeNo}
 use Rattle.number.specs.declared.ThreadNo.{ThreadNo}
+use Rattle.saved.specs.Saved.{bytesOf}
 use Rattle.step.specs.declared.Stepped.{Stepped}
-use Rattle.cases.specs.Events.{Event, after, answers, linesDone}
+use Rattle.events.specs.Events.{after, answers, linesDone}
+use Rattle.events.specs.declared.Event.{Event}
 
 infix 68 _is_
 infix 68 _under_gives_
@@ -63,6 +67,13 @@ next k s = nodeAt s (node k) .next .0
 abbrev pub locked : ℕ → State → ℕ
 locked k s = nodeAt s (node k) .locked
 
+-- its status, as the question gives it, and how many bytes its saved state has
+abbrev pub status : State → ℕ
+status s = statusAsked s .value
+
+abbrev pub bytes : State → ℕ
+bytes s = length (bytesOf s)
+
 -- ---- a case
 
 -- a number of the state, and what it is to be
@@ -72,6 +83,17 @@ pub record Reading : Type 0 where
 
 abbrev pub _is_ : (State → ℕ) → ℕ → Reading
 read is expected = record { read = read; expected = expected }
+
+-- the two lists are equal
+unfoldable pub equal : List ℕ → List ℕ → Bool
+equal [] [] = true
+equal [] (y ∷ ys) = false
+equal (x ∷ xs) [] = false
+equal (x ∷ xs) (y ∷ ys) = eqb x y && equal xs ys
+
+-- the saved state is these bytes and no others
+abbrev pub savedAs : List ℕ → Reading
+savedAs file = (λ s. cond (equal (bytesOf s) file) 1 0) is 1
 
 pub record Case : Type 0 where
   -- what it starts from: what the fresh call gives, or a state made by hand
@@ -93,13 +115,6 @@ abbrev pub _under_gives_ : Opened → List Event → List ℕ → Case
 start under events gives answers = record { start = start; events = events; answers = answers; lines = []; numbers = [] }
 
 -- ---- when a tool passes a case
-
--- the two lists are equal
-unfoldable pub equal : List ℕ → List ℕ → Bool
-equal [] [] = true
-equal [] (y ∷ ys) = false
-equal (x ∷ xs) [] = false
-equal (x ∷ xs) (y ∷ ys) = eqb x y && equal xs ys
 
 -- the second list begins with the first
 unfoldable pub begins : List ℕ → List ℕ → Bool

@@ -1,13 +1,13 @@
 -- Document 01, "States to try by hand": "All with T = K = 2. P marks those to prove." P1 to P12 as one list of cases with one proof over it: the step
--- passes them all. Each case stands under document 01's own sentence and compares every number that the sentence names. The 53 bytes of P1 and the
--- statuses of P1, P2 and P3 join the list with the calls that give them. What it is to pass is in Case.antt. The proof is a computation: the one
--- `unfolding` line names what it computes by. Assumes nothing.
+-- passes them all. Each case stands under document 01's own sentence and compares every number that the sentence names. What it is to pass is in
+-- Case.antt. The proof is a computation: the one `unfolding` line names what it computes by. Assumes nothing.
 use mathlib.Core.Bool.{true}
 use mathlib.Core.List.{List, [], _∷_, _++_}
 use mathlib.Core.Path.{_≡_, refl}
 use Prim.Native.Nat.{ℕ}
 use lib.ListN.{replicate, take}
 use Rattle.acts.specs.Acts.{moved, perform}
+use Rattle.ask.specs.Ask.{howManyThreadsTo, status as statusAsked, statusOf}
 use Rattle.lines.specs.Lines.{lineAt}
 use Rattle.lock.specs.Fresh.{fresh, freshShared, freshState, idle, idleTo}
 use Rattle.lock.specs.State.{_⟨entered≔_⟩, _⟨high≔_⟩, _⟨line≔_⟩, _⟨my≔_⟩, _⟨shared≔_⟩, _⟨thread_≔_⟩, _⟨used≔_⟩}
@@ -15,11 +15,14 @@ use Rattle.lock.specs.Valid.{nodesValid, sharedValid, threadsValid, valid}
 use Rattle.lock.specs.declared.State.{State}
 use Rattle.number.specs.Numbers.{node, place, thread}
 use Rattle.refusals.specs.Refusals.{refusal}
+use Rattle.rows.specs.Rows.{laid}
+use Rattle.saved.specs.Saved.{bytesOf}
 use Rattle.step.specs.Step.{advance, step}
 use Rattle.word.specs.Word.{aloneIn, inUse, putIn, takeOut}
 use Rattle.cases.specs.Case.{Case, _is_, _under_gives_, byHand, entered, flag, high, line, locked, low, mess, my, next, nxmy, passes, passesAll}
-use Rattle.cases.specs.Case.{prev, slot, succ, tail, used}
-use Rattle.cases.specs.Events.{Event, _times_, event}
+use Rattle.cases.specs.Case.{bytes, prev, savedAs, slot, status, succ, tail, used}
+use Rattle.events.specs.Events.{_times_, event}
+use Rattle.events.specs.declared.Event.{Event}
 
 -- so many answers 0
 abbrev pub zeros : ℕ → List ℕ
@@ -27,6 +30,18 @@ zeros many = replicate many 0
 
 -- ---- P1 fresh: 53 bytes, status 1.
 -- "Fresh: flag 1, tail 0, low = high = 1, entered 0, no node in use, each thread at line 11, every other number 0."
+
+-- its file, written from "Saved state": `LH`, T, K, flag, tail, mess, low, high, entered, nodes in use; two times `LN`, next, locked; two times
+-- `LT`, line, my, prev, succ, nxmy, slot
+abbrev pub freshFile : List ℕ
+freshFile =
+    76 ∷ 72 ∷ 2 ∷ 2 ∷ 1 ∷ 0 ∷ 0 ∷ 1 ∷ 0 ∷ 0 ∷ 0 ∷ 1 ∷ 0 ∷ 0 ∷ 0 ∷ 0 ∷ 0 ∷ 0 ∷ 0 ∷ 0 ∷ 0 ∷ 0 ∷ 0
+    ∷ 76 ∷ 78 ∷ 0 ∷ 0
+    ∷ 76 ∷ 78 ∷ 0 ∷ 0
+    ∷ 76 ∷ 84 ∷ 11 ∷ 0 ∷ 0 ∷ 0 ∷ 0 ∷ 0 ∷ 0 ∷ 0 ∷ 0
+    ∷ 76 ∷ 84 ∷ 11 ∷ 0 ∷ 0 ∷ 0 ∷ 0 ∷ 0 ∷ 0 ∷ 0 ∷ 0
+    ∷ []
+
 unfoldable pub p1 : List Case
 p1 =
     record {
@@ -35,7 +50,10 @@ p1 =
       answers = [];
       lines = [];
       numbers =
-          flag is 1
+          bytes is 53
+          ∷ savedAs freshFile
+          ∷ status is 1
+          ∷ flag is 1
           ∷ tail is 0
           ∷ mess is 0
           ∷ low is 1
@@ -75,7 +93,7 @@ alone = record {
   events = passage;
   answers = zeros 15;
   lines = [];
-  numbers = line 1 is 11 ∷ low is 2 ∷ high is 2 ∷ entered is 1 ∷ flag is 1 ∷ tail is 0 ∷ [];
+  numbers = line 1 is 11 ∷ low is 2 ∷ high is 2 ∷ entered is 1 ∷ flag is 1 ∷ tail is 0 ∷ status is 1 ∷ [];
 }
 
 unfoldable pub p2 : List Case
@@ -89,7 +107,7 @@ p3 =
       events = take 10 passage;
       answers = zeros 10;
       lines = [];
-      numbers = line 1 is 25 ∷ tail is 0 ∷ flag is 0 ∷ [];
+      numbers = line 1 is 25 ∷ tail is 0 ∷ flag is 0 ∷ status is 2 ∷ [];
     }
     ∷ []
 
@@ -241,4 +259,5 @@ cases = p1 ++ p2 ++ p3 ++ p4 ++ p5 ++ p6 ++ p7 ++ p8 ++ p9 ++ p10 ++ p11 ++ p12
 pub all-cases-hold : passesAll step cases ≡ true
 unfolding cases p1 p2 alone p3 p4 p5 p6 queued p7 p8 p9 p10 p11 p12 passesAll passes
     fresh idleTo valid sharedValid nodesValid threadsValid lineAt inUse aloneIn putIn takeOut refusal perform moved advance step
+    statusAsked statusOf howManyThreadsTo bytesOf laid
 all-cases-hold = refl

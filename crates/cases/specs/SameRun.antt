@@ -12,7 +12,8 @@ use Rattle.number.specs.Tests.{first-holds, second-holds}
 use Rattle.step.specs.Step.{step}
 use Rattle.step.specs.Theorems.{Complete, Tool, complete-same, valid-kept}
 use Rattle.cases.specs.Case.{Case, passes}
-use Rattle.cases.specs.Events.{Event, acceptsAll, after, answers, linesDone}
+use Rattle.events.specs.Events.{acceptsAll, after, answers, linesDone}
+use Rattle.events.specs.declared.Event.{Event}
 
 -- the tool gives the same answers, executes the same lines, and reaches the same state as the step
 pub record SameRun (tool : Tool) (s : State) (es : List Event) : Type 0 where

@@ -8,6 +8,7 @@ use native.Mathlib.Omega.{arith}
 use lib.Dec.{eqb}
 use lib.ListN.{replicate}
 use Rattle.acts.specs.Acts.{moved, perform}
+use Rattle.ask.specs.Ask.{howManyThreadsTo, status as statusAsked, statusOf}
 use Rattle.figure.specs.Figure.{_⟪line_≔_⟫}
 use Rattle.lines.specs.Lines.{lineAt}
 use Rattle.lock.specs.Fresh.{fresh, freshState, idleTo}
@@ -27,7 +28,8 @@ use Rattle.step.specs.declared.Stepped.{Stepped}
 use Rattle.word.specs.Word.{aloneIn, inUse, putIn, takeOut}
 use Rattle.cases.specs.Case.{line, low, passes, prev}
 use Rattle.cases.specs.Cases.{alone, bothThrough14, passage, queued}
-use Rattle.cases.specs.Events.{Event, _times_, acceptsAll, after, answers}
+use Rattle.events.specs.Events.{_times_, acceptsAll, after, answers}
+use Rattle.events.specs.declared.Event.{Event}
 use Rattle.cases.specs.SameRun.{Accepted, fails-none}
 
 -- ---- the tools
@@ -86,6 +88,7 @@ pub record Tried : Type 0 where
 pub tried : Tried
 unfolding refusesAll alwaysFresh standsStill wholeAtOnce alone queued passes acceptsAll answers after
     fresh idleTo valid sharedValid nodesValid threadsValid lineAt inUse aloneIn putIn takeOut refusal perform moved advance step
+    statusAsked statusOf howManyThreadsTo
 tried = record {
   P2 = record { from-valid = fresh-valid 2 2 refl; accepted = refl; passed = refl };
   P6 = record { from-valid = fresh-valid 2 2 refl; accepted = refl; passed = refl };

@@ -1,1 +1,27 @@
-// To come.
+// The step over a saved state that is lent: the bytes are changed where they stand, with the results of the step by value. Rests on
+// `saved` and `step`.
+ghost use mathlib.Core.Path.{_≡_};
+ghost use Rattle.lent.specs.Lent.{lentAnswer, lentBytes};
+use number::BAD_STATE;
+use number::DONE;
+use number::NodeNo;
+use number::ThreadNo;
+
+// One event of the saved state: refusal 1 if the bytes break a rule, and then 5 to 12, the first that applies. A refusal changes no
+// byte. Reading has judged the state, so the step does not judge it again.
+pub fn step_saved(bytes: &mut [u8], t: ThreadNo, n: NodeNo) -> u8
+    ensures { λ r. ⌜ (r ≡ lentAnswer (now (bytes .entry)) t n) × (now (bytes .exit) ≡ lentBytes (now (bytes .entry)) t n) ⌝ }
+{
+    let opened = saved::read(bytes);
+    if opened.number != DONE {
+        return BAD_STATE;
+    }
+    let s = opened.state;
+    let stepped = step::advance(s, t, n);
+    let answer = stepped.answer;
+    if answer == DONE {
+        let after = stepped.state;
+        saved::put_state(after, bytes);
+    }
+    answer
+}

@@ -1,21 +1,25 @@
 -- The test of a state and the rule that a state is held to agree: `valid-rule` and `rule-valid`. `x-rule` leads from a test to the rule, `rule-x` back.
 -- Each part of the test is a list of tests, and each of these stands for one fact of the rule. Of a table one law each way, for any element, turns the
 -- test of all its places into facts about its numbers. Rests on Tests (crate `number`) and on the laws of the word. Assumes nothing.
-use mathlib.Core.Bool.{Bool, true, _&&_}
+use mathlib.Core.Bool.{Bool, false, not, true, true≢false, _&&_, _||_}
 use mathlib.Core.List.{List, [], _∷_}
-use mathlib.Core.Path.{_≡_, ap, refl}
+use mathlib.Core.Logic.{_≢_}
+use mathlib.Core.Path.{_≡_, ap, refl, sym, _∙_}
 use Prim.Native.Nat.{ℕ, zero, suc, _≤_, _<_}
 use native.Mathlib.Nat.{le-of-suc-le-suc}
 use native.Mathlib.Omega.{arith}
-use lib.Dec.{leb}
+use lib.Dec.{eqb, leb, ltb}
 use lib.ListN.{getD, length}
-use borrow.Author.Tests.{eqb-true, le-leb, leb-true}
+use borrow.Author.Tests.{eqb-false, eqb-true, le-leb, leb-true, ltb-false, ltb-true, not-false, not-true}
+use Rattle.number.specs.First.{_given-when_}
+use Rattle.number.specs.FirstThat.{Reflects}
 use Rattle.number.specs.Numbers.{node, place, thread}
+use Rattle.number.specs.Refused.{_if_, badState}
 use Rattle.number.specs.Sizes.{mostNodes, mostThreads}
 use Rattle.word.specs.Laws.{from-none, none-from}
 use Rattle.lock.specs.Fresh.{inSize}
 use Rattle.lock.specs.State.{nth, zeroNode, zeroThread}
-use Rattle.number.specs.Tests.{EachHolds, all-hold, both-hold, each-holds, first-holds, second-holds}
+use Rattle.number.specs.Tests.{EachHolds, all-hold, both-hold, each-holds, either-holds, first-holds, neither-holds, second-holds}
 use Rattle.lock.specs.Valid.{Between, NodeRange, SharedRange, Sized, ThreadRange, Valid, nodesValid, sharedTests, sharedValid, threadsValid, upTo, valid}
 use Rattle.lock.specs.Valid.{nodeInRange, nodeIsZero, nodeTests, nodeZeros, threadInRange, threadIsZero, threadTests, threadZeros}
 use Rattle.lock.specs.declared.Node.{Node}
@@ -200,3 +204,26 @@ rule-valid s v =
     both-hold
     (both-hold (rule-shared (s .shared) (v .shared)) (rule-table (nodes-agree K) K (s .node) nodes))
     (rule-table (threads-agree K) (s .shared .threads) (s .thread) threads)
+
+-- ---- the tests of refusals that several calls make
+
+-- Refusal 1 of a state that is not in bytes: its test says that the state breaks the rule.
+pub judges-state : (s : State) → Sized s → Reflects (badState if not (valid s)) (badState given-when (¬ Valid s))
+judges-state s sized = record {
+  holds = λ e. ((λ rule. true≢false (sym (rule-valid s rule) ∙ not-true _ e)), refl);
+  fails = λ e broken. broken (valid-rule s sized (not-false _ e));
+}
+
+-- A thread or node number k that passes the test of n is 1 to n.
+pub in-table : (k n : ℕ) → (eqb k 0 || ltb n k) ≡ false → Between 1 k n
+in-table k n h =
+    let r = neither-holds (eqb k 0) (ltb n k) h in
+    let not-zero : k ≢ 0 = eqb-false _ _ (r .0) in
+    record { from = omega arith; to = ltb-false _ _ (r .1) }
+
+-- The refusal of one that is not 1 to n.
+pub judges-outside : (number k n : ℕ) → Reflects (number if (eqb k 0 || ltb n k)) (number given-when (¬ Between 1 k n))
+judges-outside number k n = record {
+  holds = λ e. ((λ b. either-holds (eqb k 0) (ltb n k) e (λ z. omega (arith, eqb-true k 0 z)) (λ z. omega (arith, ltb-true n k z))), refl);
+  fails = λ e outside. outside (in-table k n e);
+}

@@ -172,7 +172,7 @@ pub fn with_node(s: State, k: NodeNo, v: Node) -> State
 // ---- the fresh state
 
 // T and K are 1 to 32.
-fn in_size(threads: u8, nodes: u8) -> bool
+pub fn in_size(threads: u8, nodes: u8) -> bool
     ensures { λ r. ⌜ r ≡ inSize threads nodes ⌝ }
 {
     (1 <= threads) & (threads <= MOST_THREADS) & (1 <= nodes) & (nodes <= MOST_NODES)

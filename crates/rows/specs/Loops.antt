@@ -1,6 +1,6 @@
 -- The laws of loops over records, for every kind: a turn that judges one record more, that reads one more into a table, and that writes one more.
 -- Each follows from how the definitions go on by one record at the end. Assumes nothing.
-use mathlib.Core.Bool.{Bool, and-assoc, and-true, true, _&&_}
+use mathlib.Core.Bool.{Bool, and-assoc, and-true, _&&_}
 use mathlib.Core.List.{List, [], _∷_, _++_, append-assoc, append-nil}
 use mathlib.Core.Path.{_≡_, ap, refl, sym, _∙_}
 use Prim.Native.Nat.{ℕ, zero, suc, _+_, _*_, _≤_, _<_}

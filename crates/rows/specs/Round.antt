@@ -1,14 +1,29 @@
 -- Reading what was written, and writing what was read, for every lawful kind of record. By induction over the records. Assumes nothing.
-use mathlib.Core.Bool.{Bool, true, _&&_}
+use mathlib.Core.Bool.{true}
 use mathlib.Core.List.{List, [], _∷_, _++_, append-assoc}
-use mathlib.Core.Path.{_≡_, ap, refl, sym, _∙_}
+use mathlib.Core.Path.{_≡_, refl}
 use Prim.Native.Nat.{ℕ, zero, suc, _+_, _*_, _≤_}
 use native.Mathlib.Nat.{mul-suc, mul-zero}
 use native.Mathlib.Omega.{arith}
 use lib.ListN.{drop, getD, length, length-drop, take}
-use lib.Seq.{drop-at, getD-drop, take-add}
+use lib.Seq.{drop-at, drop-cons, getD-drop, take-add}
 use Rattle.number.specs.Tests.{both-hold, first-holds, second-holds}
 use Rattle.rows.specs.Rows.{Bytes, Kind, Lawful, allGood, allIn, good, laid, marked, values}
+
+-- ---- the bytes of r from a place on, one by one, as a record reads and writes them
+abbrev pub listed : ℕ → ℕ → List ℕ → List ℕ
+listed zero i r = []
+listed (suc n) i r = getD r i 0 ∷ listed n (suc i) r
+
+listed-part : (n i : ℕ) (r : List ℕ) → i + n ≤ length r → listed n i r ≡ take n (drop i r)
+listed-part zero i r h = refl
+listed-part (suc n) i r h = rw (drop-cons r i 0 (omega arith), listed-part n (suc i) r (omega arith))
+
+-- The first n bytes, one by one, are the first n bytes.
+pub listed-front : (n : ℕ) (r : List ℕ) → n ≤ length r → listed n 0 r ≡ take n r
+listed-front n r h = listed-part n 0 r (omega arith)
+
+-- ---- records
 
 -- What lies past a place of a list of bytes is bytes.
 pub bytes-past : (n : ℕ) (b : List ℕ) → Bytes b → Bytes (drop n b)

@@ -3,7 +3,7 @@
 use mathlib.Core.Bool.{Bool, true, _&&_}
 use mathlib.Core.List.{List, [], _∷_, _++_}
 use mathlib.Core.Path.{_≡_}
-use Prim.Native.Nat.{ℕ, zero, suc, _≤_, _<_}
+use Prim.Native.Nat.{ℕ, zero, suc, _+_, _≤_, _<_}
 use lib.Dec.{eqb}
 use lib.ListN.{drop, getD, length, take}
 
@@ -17,7 +17,11 @@ Bytes b = (i : ℕ) → getD b i 0 < 256
 abbrev pub over : List ℕ → List ℕ → List ℕ
 over vs o = vs ++ drop (length vs) o
 
--- b begins with the mark of these two bytes
+-- the mark of these two bytes stands at a place of b
+abbrev pub MarkAt : List ℕ → ℕ → ℕ → ℕ → Type 0
+MarkAt b place first second = (getD b place 0 ≡ first) × (getD b (place + 1) 0 ≡ second)
+
+-- the test that b begins with it
 abbrev pub marked : ℕ → ℕ → List ℕ → Bool
 marked first second b = eqb (getD b 0 0) first && eqb (getD b 1 0) second
 

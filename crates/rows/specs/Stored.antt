@@ -1,7 +1,7 @@
 -- Laws of stores: bytes that are stored one after the other, from the list library's `sets` (a list of values stored from a place on).
 -- By induction over what is stored. Assumes nothing.
 use mathlib.Core.List.{List, [], _∷_, _++_}
-use mathlib.Core.Path.{_≡_, ap, refl, sym, _∙_}
+use mathlib.Core.Path.{_≡_, ap, _∙_}
 use Prim.Native.Nat.{ℕ, suc, _+_, _≤_, _<_}
 use native.Mathlib.Nat.{le-of-lt, zero-add}
 use native.Mathlib.Numerals.{add-one}

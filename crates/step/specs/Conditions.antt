@@ -11,13 +11,13 @@ use Rattle.lock.specs.State.{threadAt}
 use Rattle.lock.specs.Valid.{Between, Valid}
 use Rattle.lock.specs.declared.State.{State}
 use Rattle.lock.specs.declared.Thread.{Thread}
-use Rattle.number.specs.Refused.{badState, done, followedEmpty, followedUnused, mustWait, noEntryLeft, noPlaceLeft, noSuchThread, nodeTaken, wrongNode}
+pub use Rattle.number.specs.First.{Condition, First, NoneApply, _given-when_}
+use Rattle.number.specs.Refused.{badState, followedEmpty, followedUnused, mustWait, noEntryLeft, noPlaceLeft, noSuchThread, nodeTaken, wrongNode}
 use Rattle.number.specs.Sizes.{lastPlace, mostEntries}
 use Rattle.number.specs.declared.NodeNo.{NodeNo}
 use Rattle.number.specs.declared.ThreadNo.{ThreadNo}
 use Rattle.word.specs.Word.{inUse}
 
-infix 68 _given-when_
 -- ---- followed nodes and waits
 
 -- the number is one of the list
@@ -43,13 +43,6 @@ pub data Waits (s : State) (t : ThreadNo) : Type 0 where
 
 -- ---- the conditions
 
-pub record Condition : Type 1 where
-  pub number : ℕ
-  pub applies : Type 0
-
-abbrev pub _given-when_ : ℕ → Type 0 → Condition
-number given-when condition = record { number = number; applies = condition }
-
 abbrev pub conditions : State → ThreadNo → NodeNo → List Condition
 conditions s t n =
     -- 1 | the saved state breaks a rule above
@@ -71,13 +64,3 @@ conditions s t n =
     -- 12 | the line waits and its condition does not hold
     ∷ mustWait given-when Waits s t
     ∷ []
-
--- none of them applies
-abbrev pub NoneApply : List Condition → Type 0
-NoneApply [] = Unit {0}
-NoneApply (c ∷ cs) = (¬ c .applies) × NoneApply cs
-
--- "The first that applies, in this order, is given": m is the number of the first condition that applies, and 0 if none does
-abbrev pub First : List Condition → ℕ → Type 0
-First [] m = m ≡ done
-First (c ∷ cs) m = (c .applies × (m ≡ c .number)) ⊎ ((¬ c .applies) × First cs m)

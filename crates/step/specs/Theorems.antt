@@ -2,6 +2,7 @@
 use mathlib.Core.List.{List, _∷_, _++_}
 use mathlib.Core.Logic.{_≢_, _↔_}
 use mathlib.Core.Path.{_≡_}
+use Rattle.lock.specs.Judged.{rule-valid}
 use Rattle.lock.specs.State.{nodeAt, threadAt}
 use Rattle.lock.specs.Valid.{Sized, Valid}
 use Rattle.lock.specs.declared.State.{State}
@@ -14,7 +15,7 @@ use Rattle.step.specs.Proof.Answer
 use Rattle.step.specs.Proof.Against
 use Rattle.step.specs.Proof.Exactly
 use Rattle.step.specs.Proof.Stays
-use Rattle.step.specs.Step.{step}
+use Rattle.step.specs.Step.{advance, step}
 use Rattle.step.specs.declared.Stepped.{Stepped}
 pub use Rattle.step.specs.Demands.{Complete, Exact, Possible, Sound, Tool, Unchanged}
 
@@ -54,6 +55,20 @@ nodes-stay = Stays.nodes-stay
 -- An accepted step keeps a valid state valid.
 pub valid-kept : (s : State) (t : ThreadNo) (n : NodeNo) → Valid s → step s t n .answer ≡ done → Valid (step s t n .state)
 valid-kept = Against.valid-kept
+
+-- In a valid state the inner step, which does not judge it, is the step.
+pub advance-is-step : (s : State) (t : ThreadNo) (n : NodeNo) → Valid s → advance s t n ≡ step s t n
+unfolding step
+advance-is-step s t n rule = rw (rule-valid s rule)
+
+-- A step, accepted or refused, leaves T and K as they were.
+pub size-kept : (s : State) (t : ThreadNo) (n : NodeNo) → Valid s
+    → (step s t n .state .shared .threads ≡ s .shared .threads) × (step s t n .state .shared .nodes ≡ s .shared .nodes)
+size-kept = Against.size-kept
+
+-- An accepted step was possible.
+pub accepted-possible : (s : State) (t : ThreadNo) (n : NodeNo) → Valid s → step s t n .answer ≡ done → Possible s t n
+accepted-possible = Against.possible
 
 -- Two results that both meet the step's promise are equal.
 pub step-one-result : (s : State) (t : ThreadNo) (n : NodeNo) (r r′ : Stepped) → r ≡ step s t n → r′ ≡ step s t n → r ≡ r′

@@ -13,7 +13,7 @@ use Rattle.figure.specs.Figure.{Figure, entered, flag, high, line, local, locke
 use Rattle.figure.specs.Figure.Figure.{line11, line12, line13, line14, line15, line16, line17, line18, line19, line20, line21, line22, line23, line24}
 use Rattle.figure.specs.Figure.Figure.{line25, line26, line27, line28, line29}
 use Rattle.lines.specs.Lines.{lineAt}
-use Rattle.lock.specs.Judged.{valid-rule}
+use Rattle.lock.specs.Judged.{in-table, valid-rule}
 use Rattle.lock.specs.State.{threadAt}
 use Rattle.lock.specs.Valid.{Between, Sized, Valid}
 use Rattle.lock.specs.declared.State.{State}
@@ -25,9 +25,9 @@ use Rattle.number.specs.declared.ThreadNo.{ThreadNo}
 use Rattle.step.specs.Conditions.{NoneApply, Waits, conditions}
 use Rattle.step.specs.Conditions.Waits.{at16, at19, at23}
 use Rattle.step.specs.Demands.{Complete, Exact, Possible, Sound, Tool, Unchanged}
-use Rattle.step.specs.Proof.Answer.{Accepted, accepted, executes, in-table, unchanged}
+use Rattle.step.specs.Proof.Answer.{Accepted, accepted, executes, unchanged}
 use Rattle.step.specs.Proof.Exactly.{accepted-exactly, exactly-when}
-use Rattle.step.specs.Proof.Kept.{after-valid}
+use Rattle.step.specs.Proof.Kept.{after-size, after-valid}
 use Rattle.step.specs.Proof.Leads.{ends, leads}
 use Rattle.step.specs.Step.{after, followed, step, stepped, windowOf}
 use Rattle.step.specs.declared.Stepped.{Stepped}
@@ -44,7 +44,7 @@ module _ (s : State) (t : ThreadNo) (n : NodeNo) (rule : Valid s) (h : step s t 
   -- the thread has a place in the table
   here : Between 1 (t .0) (length (s .thread))
   here =
-      let b = in-table (s .shared .threads) t (ok .there) in
+      let b = in-table (t .0) (s .shared .threads) (ok .there) in
       record { from = b .from; to = omega (arith, rule .shared .threads .to, rule .sized .threads) }
 
   now-at : step s t n .state ≡ after s t v n
@@ -52,12 +52,15 @@ module _ (s : State) (t : ThreadNo) (n : NodeNo) (rule : Valid s) (h : step s t 
 
   pub leads-on : Figure t n s (step s t n .state)
   leads-on =
-      let b = in-table (s .shared .threads) t (ok .there) in
+      let b = in-table (t .0) (s .shared .threads) (ok .there) in
       let l = rule .thread t (b .from) (b .to) .line in
       rw now-at (leads s t n (here .from) (here .to) (v .line) (l .from) (l .to) refl (clear (windowOf s v) (lineAt (v .line)) (followed v) n (ok .clear)))
 
   pub still-valid : Valid (step s t n .state)
   still-valid = rw now-at (after-valid s t n rule ok)
+
+  pub same-size : (step s t n .state .shared .threads ≡ s .shared .threads) × (step s t n .state .shared .nodes ≡ s .shared .nodes)
+  same-size = rw now-at (after-size s t n rule ok)
 
 pub sound : Sound step
 sound s t n = leads-on s t n
@@ -163,7 +166,7 @@ module _ (s : State) (t : ThreadNo) (n : NodeNo) (rule : Valid s) (h : step s t 
   not-one =
       accepted-exactly s t n (rule .sized) .0 h
 
-  possible : Possible s t n
+  pub possible : Possible s t n
   possible =
       let no6 = not-one .1 .1 .0 in
       let no7 = not-one .1 .1 .1 .0 in
@@ -171,7 +174,7 @@ module _ (s : State) (t : ThreadNo) (n : NodeNo) (rule : Valid s) (h : step s t 
       let no10 = not-one .1 .1 .1 .1 .1 .1 .0 in
       let no11 = not-one .1 .1 .1 .1 .1 .1 .1 .0 in
       record {
-        thread = in-table (s .shared .threads) t (ok s t n rule h .there);
+        thread = in-table (t .0) (s .shared .threads) (ok s t n rule h .there);
         named = λ e. by-cases (ℕ-discrete (n .0) 0) (λ z. z) (λ z. absurd (no6 (inr (e, z))));
         within = λ e. by-cases (decLe (n .0) (s .shared .nodes)) (λ z. z) (λ z. absurd (no6 (inl (e, λ b. z (b .to)))));
         entries = λ e. let off : entered s ≢ mostEntries = λ z. no7 (e, z) in omega (arith, rule .shared .entered);
@@ -183,6 +186,16 @@ module _ (s : State) (t : ThreadNo) (n : NodeNo) (rule : Valid s) (h : step s t 
 pub complete-same : (tool : Tool) → Complete tool → (s : State) (t : ThreadNo) (n : NodeNo) → Valid s → step s t n .answer ≡ done → tool s t n ≡ step s t n
 complete-same tool c s t n rule h =
     c s t n (step s t n .state) rule (possible s t n rule h) (sound s t n rule h) ∙ ap (λ (a : ℕ). stepped a (step s t n .state)) (sym h)
+
+-- ---- accepted or refused, a step leaves T and K
+
+pub size-kept : (s : State) (t : ThreadNo) (n : NodeNo) → Valid s
+    → (step s t n .state .shared .threads ≡ s .shared .threads) × (step s t n .state .shared .nodes ≡ s .shared .nodes)
+size-kept s t n rule = go (ℕ-discrete (step s t n .answer) done)
+  where
+    go : Dec (step s t n .answer ≡ done) → (step s t n .state .shared .threads ≡ s .shared .threads) × (step s t n .state .shared .nodes ≡ s .shared .nodes)
+    go (yes h) = same-size s t n rule h
+    go (no h) = rw (unchanged s t n h) (refl, refl)
 
 -- ---- the demands leave no second tool
 

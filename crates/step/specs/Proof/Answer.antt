@@ -3,30 +3,20 @@ use mathlib.Core.Bool.{Bool, cond, false, not, true}
 use mathlib.Core.List.{List, _∷_}
 use mathlib.Core.Logic.{_≢_}
 use mathlib.Core.Path.{_≡_, ap, refl, sym, _∙_}
-use Prim.Native.Nat.{ℕ}
 use native.Mathlib.Decide.{ℕ-discrete}
 use native.Mathlib.Omega.{arith}
-use lib.Dec.{eqb, ltb}
-use borrow.Author.Tests.{eq-eqb, eqb-false, ltb-false, ne-eqb}
+use borrow.Author.Tests.{eq-eqb, ne-eqb}
 use Rattle.lines.specs.Lines.{lineAt}
 use Rattle.lock.specs.State.{threadAt}
-use Rattle.lock.specs.Valid.{Between, valid}
+use Rattle.lock.specs.Valid.{valid}
 use Rattle.lock.specs.declared.State.{State}
 use Rattle.lock.specs.declared.Thread.{Thread}
 use Rattle.number.specs.Refused.{Refusal, _if_, badState, done, firstOf, noSuchThread}
-use Rattle.number.specs.Tests.{neither-holds}
 use Rattle.number.specs.declared.NodeNo.{NodeNo}
 use Rattle.number.specs.declared.ThreadNo.{ThreadNo}
 use Rattle.refusals.specs.Refusals.{refusal, refusals}
 use Rattle.step.specs.Step.{advance, advanceBy, after, followed, noThread, refusalOf, step, stepped, windowOf}
 use Rattle.step.specs.declared.Stepped.{Stepped}
-
--- ---- a thread that is not refused by 5 is 1 to T
-pub in-table : (threads : ℕ) (t : ThreadNo) → noThread threads t ≡ false → Between 1 (t .0) threads
-in-table threads t h =
-    let r = neither-holds (eqb (t .0) 0) (ltb threads (t .0)) h in
-    let not-zero : t .0 ≢ 0 = eqb-false _ _ (r .0) in
-    record { from = omega arith; to = ltb-false _ _ (r .1) }
 
 -- ---- an event in a judged state: it is refused, or the line is executed
 module _ (s : State) (t : ThreadNo) (v : Thread) (n : NodeNo) where

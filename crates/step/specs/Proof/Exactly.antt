@@ -1,51 +1,32 @@
 -- The answer of a step is the number of the first condition that applies: each test of the step says what its condition says (Judges), and the
 -- answer is that of the first test that holds (Answer). Assumes nothing.
-use mathlib.Core.Bool.{not, true≢false}
 use mathlib.Core.List.{List, _∷_, _++_}
 use mathlib.Core.Logic.{_↔_}
-use mathlib.Core.Path.{_≡_, refl, subst, sym, _∙_}
+use mathlib.Core.Path.{_≡_}
 use Prim.Native.Nat.{ℕ}
 use native.Mathlib.Omega.{arith}
-use lib.Dec.{eqb, ltb}
 use lib.ListN.{drop}
-use borrow.Author.Tests.{eqb-true, ltb-true, not-false, not-true}
+use borrow.Author.Tests.{not-false}
 use Rattle.lines.specs.Lines.{lineAt}
-use Rattle.lock.specs.Judged.{rule-valid, valid-rule}
+use Rattle.lock.specs.Judged.{in-table, judges-outside, judges-state, valid-rule}
 use Rattle.lock.specs.State.{threadAt}
-use Rattle.lock.specs.Valid.{Between, Sized, Valid, valid}
+use Rattle.lock.specs.Valid.{Between, Sized, Valid}
 use Rattle.lock.specs.declared.State.{State}
 use Rattle.lock.specs.declared.Thread.{Thread}
-use Rattle.number.specs.Refused.{_if_, badState, done, noSuchThread}
-use Rattle.number.specs.Tests.{either-holds}
+use Rattle.number.specs.Refused.{done, noSuchThread}
 use Rattle.number.specs.declared.NodeNo.{NodeNo}
 use Rattle.number.specs.declared.ThreadNo.{ThreadNo}
 use Rattle.refusals.specs.Refusals.{counts, refusals}
-use Rattle.step.specs.Conditions.{Condition, First, NoneApply, _given-when_, conditions}
-use Rattle.step.specs.Proof.Answer.{answer-first, in-table, tests}
-use Rattle.step.specs.Proof.FirstThat.{AllReflect, Reflects, Rising, first-none, first-of, first-one, first-this}
+use Rattle.step.specs.Conditions.{Condition, First, NoneApply, conditions}
+use Rattle.step.specs.Proof.Answer.{answer-first, tests}
+use Rattle.number.specs.FirstThat.{AllReflect, Rising, done-exactly, number-exactly, this-exactly}
 use Rattle.step.specs.Proof.Judges.{judges10, judges11, judges12, judges6, judges7, judges8, judges9}
 use Rattle.step.specs.Proof.Table.{row-agrees}
-use Rattle.step.specs.Step.{followed, noThread, step, windowOf}
+use Rattle.step.specs.Step.{followed, step, windowOf}
 
 module _ (s : State) (t : ThreadNo) (n : NodeNo) (sized : Sized s) where
   abbrev v : Thread
   v = threadAt s t
-
-  judges1 : Reflects (badState if not (valid s)) (badState given-when (Valid s → ⊥))
-  judges1 = record {
-    holds = λ e. ((λ rule. true≢false (sym (rule-valid s rule) ∙ not-true _ e)), refl);
-    fails = λ e broken. broken (valid-rule s sized (not-false _ e));
-  }
-
-  judges5 : Reflects (noSuchThread if noThread (s .shared .threads) t) (noSuchThread given-when (Between 1 (t .0) (s .shared .threads) → ⊥))
-  judges5 = record {
-    holds = λ e. (
-      (λ b. either-holds (eqb (t .0) 0) (ltb (s .shared .threads) (t .0)) e (λ z. omega (arith, eqb-true (t .0) 0 z))
-          (λ z. omega (arith, ltb-true (s .shared .threads) (t .0) z))),
-      refl,
-    );
-    fails = λ e outside. outside (in-table (s .shared .threads) t e);
-  }
 
   -- 6 to 12, in a valid state, of a thread 1 to T
   judges-line :
@@ -74,28 +55,18 @@ module _ (s : State) (t : ThreadNo) (n : NodeNo) (sized : Sized s) where
 
   judges : AllReflect (tests s t n) (conditions s t n)
   judges =
-      (judges1, λ j1. (judges5, λ j5. judges-line (valid-rule s sized (not-false _ j1)) (in-table (s .shared .threads) t j5)))
+      (judges-state s sized, λ j1. (judges-outside noSuchThread (t .0) (s .shared .threads), λ j5. judges-line (valid-rule s sized (not-false _ j1)) (in-table (t .0) (s .shared .threads) j5)))
 
   pub exactly-when : (m : ℕ) → (step s t n .answer ≡ m) ↔ First (conditions s t n) m
-  exactly-when m =
-      let f = first-of (tests s t n) (conditions s t n) judges in
-      ((λ e. subst (First (conditions s t n)) (sym (answer-first s t n) ∙ e) f), λ g. answer-first s t n ∙ first-one (conditions s t n) _ m f g)
+  exactly-when m = rw (answer-first s t n) (number-exactly (tests s t n) (conditions s t n) judges m)
 
   -- the numbers of the table rise, so each tells its own condition
   rising : Rising done (conditions s t n)
   rising = omega arith
 
   pub accepted-exactly : (step s t n .answer ≡ done) ↔ NoneApply (conditions s t n)
-  accepted-exactly =
-      let e = exactly-when done in
-      let f = first-none (conditions s t n) rising in
-      ((λ h. f .0 (e .0 h)), λ h. e .1 (f .1 h))
+  accepted-exactly = rw (answer-first s t n) (done-exactly (tests s t n) (conditions s t n) judges rising)
 
   pub given-exactly : (before : List Condition) (c : Condition) (later : List Condition) → conditions s t n ≡ before ++ c ∷ later
       → (step s t n .answer ≡ c .number) ↔ (NoneApply before × c .applies)
-  given-exactly before c later split =
-      let e = exactly-when (c .number) in
-      let f = first-this done before c later (subst (Rising done) split rising) in (
-        (λ h. f .0 (subst (λ (cs : List Condition). First cs (c .number)) split (e .0 h))),
-        λ h. e .1 (subst (λ (cs : List Condition). First cs (c .number)) (sym split) (f .1 h)),
-      )
+  given-exactly before c later split = rw (answer-first s t n) (this-exactly (tests s t n) (conditions s t n) judges rising before c later split)

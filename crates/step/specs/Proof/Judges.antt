@@ -30,7 +30,7 @@ use Rattle.word.specs.Word.{inUse}
 use Rattle.step.specs.Conditions.{_given-when_, Condition, Follows, Waits, among, followMy}
 use Rattle.step.specs.Conditions.Follows.{my-at, prev-at, succ-at}
 use Rattle.step.specs.Conditions.Waits.{at16, at19, at23}
-use Rattle.step.specs.Proof.FirstThat.{Reflects, never}
+use Rattle.number.specs.FirstThat.{Reflects, never}
 use Rattle.step.specs.Proof.Table.{countsAt, followsAt, waitsAt}
 use Rattle.step.specs.Step.{followed}
 

@@ -18,6 +18,7 @@ use Rattle.lines.specs.declared.Act.the-variants.{Choose, ClearNext, CloseTail,
 use Rattle.lines.specs.declared.Act.the-variants.{SetLocked, Stay, TakeMess}
 use Rattle.lines.specs.declared.Line.{Line}
 use Rattle.lines.specs.declared.Window.{Window}
+use Rattle.lock.specs.Judged.{in-table}
 use Rattle.lock.specs.Laws.{length-set-nth, nth-set-other, nth-set-same}
 use Rattle.lock.specs.State.{_⟨flag≔_⟩, _⟨locked≔_⟩, _⟨low≔_⟩, _⟨tail≔_⟩, nth, setNth, threadAt, zeroNode, zeroThread}
 use Rattle.lock.specs.Valid.{Between, NodeRange, SharedRange, ThreadRange, Valid}
@@ -29,7 +30,7 @@ use Rattle.number.specs.declared.NodeNo.{NodeNo}
 use Rattle.number.specs.declared.ThreadNo.{ThreadNo}
 use Rattle.refusals.specs.Refusals.{badNode, counts}
 use Rattle.step.specs.Proof.Table.{row-inside}
-use Rattle.step.specs.Proof.Answer.{Accepted, in-table}
+use Rattle.step.specs.Proof.Answer.{Accepted}
 use Rattle.step.specs.Step.{after, followed, windowOf}
 use Rattle.word.specs.Laws.{put-fits, take-fits}
 use Rattle.word.specs.Word.{putIn, takeOut}
@@ -128,7 +129,7 @@ module _ (s : State) (t : ThreadNo) (n : NodeNo) (valid : Valid s) (a : Accepted
   m = moved w (lineAt (v .line)) n
 
   its-thread : ThreadRange (s .shared .nodes) v
-  its-thread = let r = in-table (s .shared .threads) t (a .there) in valid .thread t (r .from) (r .to)
+  its-thread = let r = in-table (t .0) (s .shared .threads) (a .there) in valid .thread t (r .from) (r .to)
 
   follow-range : (f : Follow) → followedBy f v .0 ≤ s .shared .nodes
   follow-range NoNode = omega arith
@@ -149,10 +150,13 @@ module _ (s : State) (t : ThreadNo) (n : NodeNo) (valid : Valid s) (a : Accepted
       let g = row-inside (v .line) (its-thread .line .from) (its-thread .line .to) in
       moved-kept w (lineAt (v .line)) n (g .0) (g .1) (c .node) (ready w (lineAt (v .line)) k n (a .clear)) in-range
 
+  pub after-size : (after s t v n .shared .threads ≡ s .shared .threads) × (after s t v n .shared .nodes ≡ s .shared .nodes)
+  after-size = (kept .threads, kept .nodes)
+
   pub after-valid : Valid (after s t v n)
   after-valid =
       let r = kept .range in
-      let t≤T = in-table (s .shared .threads) t (a .there) .to in
+      let t≤T = in-table (t .0) (s .shared .threads) (a .there) .to in
       let k≤K = follow-range (lineAt (v .line) .follow) in
       let sizes = valid .shared in
       record {

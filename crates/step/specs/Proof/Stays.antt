@@ -3,6 +3,7 @@ use mathlib.Core.Logic.{_≢_, by-cases}
 use mathlib.Core.Path.{_≡_, ap, refl, subst, sym, _∙_}
 use native.Mathlib.Decide.{ℕ-discrete}
 use Rattle.lines.specs.Lines.{lineAt}
+use Rattle.lock.specs.Judged.{in-table}
 use Rattle.lock.specs.Laws.{nth-set-other}
 use Rattle.lock.specs.State.{nodeAt, threadAt, zeroNode, zeroThread}
 use Rattle.lock.specs.Valid.{Valid}
@@ -11,7 +12,7 @@ use Rattle.number.specs.Refused.{done}
 use Rattle.number.specs.declared.NodeNo.{NodeNo}
 use Rattle.number.specs.declared.ThreadNo.{ThreadNo}
 use Rattle.step.specs.Conditions.{Follows}
-use Rattle.step.specs.Proof.Answer.{Accepted, accepted, executes, in-table, unchanged}
+use Rattle.step.specs.Proof.Answer.{Accepted, accepted, executes, unchanged}
 use Rattle.step.specs.Proof.Judges.{follows}
 use Rattle.step.specs.Proof.Table.{row-agrees}
 use Rattle.step.specs.Step.{after, followed, step}
@@ -38,7 +39,7 @@ module _ (s : State) (t : ThreadNo) (n : NodeNo) (rule : Valid s) (k : NodeNo) (
   elsewhere : Accepted s t n → k .0 ≡ followed (threadAt s t) .0 → k .0 ≡ 0
   elsewhere a e = by-cases (ℕ-discrete (k .0) 0) (λ z. z) (λ z.
       let v = threadAt s t in
-      let b = in-table (s .shared .threads) t (a .there) in
+      let b = in-table (t .0) (s .shared .threads) (a .there) in
       let l = rule .thread t (b .from) (b .to) .line in
       let f = follows v (lineAt (v .line) .follow) (row-agrees (v .line) (l .from) (l .to) .1) (λ q. z (e ∙ q)) in
       absurd (apart (subst (Follows v) (same-node e) f)))

@@ -3,11 +3,13 @@
 use mathlib.Core.Bool.{Bool, cond, false, true, true≢false}
 use mathlib.Core.List.{List, [], _∷_, _++_}
 use mathlib.Core.Logic.{_↔_, inl, inr}
-use mathlib.Core.Path.{_≡_, refl, sym, _∙_}
+use mathlib.Core.Path.{_≡_, refl, subst, sym, _∙_}
 use Prim.Native.Nat.{ℕ, _≤_, _<_}
 use native.Mathlib.Omega.{arith}
-use Rattle.number.specs.Refused.{Refusal, done, firstOf}
-use Rattle.step.specs.Conditions.{Condition, First, NoneApply}
+use lib.Dec.{ltb}
+use borrow.Author.Tests.{ltb-false, ltb-true}
+use Rattle.number.specs.First.{Condition, First, NoneApply, _given-when_}
+use Rattle.number.specs.Refused.{Refusal, _if_, done, firstOf, tooShort}
 
 -- the test says what the condition says
 pub record Reflects (r : Refusal) (c : Condition) : Type 0 where
@@ -82,3 +84,68 @@ first-this m before c later r = (to m before r, from before)
     from : (before : List Condition) → NoneApply before × c .applies → First (before ++ c ∷ later) (c .number)
     from [] h = inl (h .1, refl)
     from (b ∷ bs) h = inr (h .0 .0, from bs (h .0 .1, h .1))
+
+-- ---- the tests alone
+
+-- no number of the tests is 0, and so 0 says that none holds
+abbrev pub Numbered : List Refusal → Type 0
+Numbered [] = Unit {0}
+Numbered (r ∷ rs) = (done < r .number) × Numbered rs
+
+abbrev pub NoneHolds : List Refusal → Type 0
+NoneHolds [] = Unit {0}
+NoneHolds (r ∷ rs) = (r .applies ≡ false) × NoneHolds rs
+
+pub none-holds : (rs : List Refusal) → Numbered rs → firstOf rs ≡ done → NoneHolds rs
+none-holds [] n h = tt
+none-holds (r ∷ rs) n h = go (λ e. none-holds rs (n .1) e) (r .applies) refl h
+  where
+    go : (firstOf rs ≡ done → NoneHolds rs) → (b : Bool) → r .applies ≡ b → cond b (r .number) (firstOf rs) ≡ done → NoneHolds (r ∷ rs)
+    go later true e h = absurd (omega (arith, n .0))
+    go later false e h = (e, later h)
+
+-- no number is above m, and so the one that is given is not
+abbrev pub AtMost : ℕ → List Refusal → Type 0
+AtMost m [] = Unit {0}
+AtMost m (r ∷ rs) = (r .number ≤ m) × AtMost m rs
+
+pub first-at-most : (m : ℕ) (rs : List Refusal) → AtMost m rs → firstOf rs ≤ m
+first-at-most m [] h = omega arith
+first-at-most m (r ∷ rs) h = go (first-at-most m rs (h .1)) (r .applies)
+  where
+    go : firstOf rs ≤ m → (b : Bool) → cond b (r .number) (firstOf rs) ≤ m
+    go later true = h .0
+    go later false = later
+
+-- ---- a test that several calls make: an output shorter than it needs to be
+pub judges-short : (room needed : ℕ) → Reflects (tooShort if ltb room needed) (tooShort given-when (room < needed))
+judges-short room needed = record {
+  holds = λ e. (ltb-true room needed e, refl);
+  fails = λ e short. omega (arith, ltb-false room needed e);
+}
+
+-- ---- what a call's number says, where its tests say what its conditions say
+module _ (rs : List Refusal) (cs : List Condition) (reflect : AllReflect rs cs) where
+  -- The number that the tests give is that of the first condition that applies, and 0 if none does.
+  pub number-exactly : (m : ℕ) → (firstOf rs ≡ m) ↔ First cs m
+  number-exactly m =
+      let f = first-of rs cs reflect in
+      ((λ e. subst (First cs) e f), λ g. first-one cs _ m f g)
+
+  module _ (rising : Rising done cs) where
+    -- So it is 0 exactly when none applies ..
+    pub done-exactly : (firstOf rs ≡ done) ↔ NoneApply cs
+    done-exactly =
+        let e = number-exactly done in
+        let f = first-none cs rising in
+        ((λ h. f .0 (e .0 h)), λ h. e .1 (f .1 h))
+
+    -- .. and each condition's own number exactly when it applies and none before it does.
+    pub this-exactly : (before : List Condition) (c : Condition) (later : List Condition) → cs ≡ before ++ c ∷ later
+        → (firstOf rs ≡ c .number) ↔ (NoneApply before × c .applies)
+    this-exactly before c later split =
+        let e = number-exactly (c .number) in
+        let f = first-this done before c later (subst (Rising done) split rising) in (
+          (λ h. f .0 (subst (λ (l : List Condition). First l (c .number)) split (e .0 h))),
+          λ h. e .1 (subst (λ (l : List Condition). First l (c .number)) (sym split) (f .1 h)),
+        )

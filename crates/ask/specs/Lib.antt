@@ -1,0 +1,6 @@
+-- Questions about a state: the definitions that the calls' contracts cite, document 01's sentences as facts, and the theorems that the two agree.
+-- Proof holds the arguments.
+pub mod Ask
+pub mod Meaning
+pub mod Theorems
+pub mod Proof

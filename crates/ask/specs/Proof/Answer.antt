@@ -1,0 +1,78 @@
+-- What a question gives, case by case: its value in a valid state and refusal 1 in any other; the numbers of a chain question, and what it gives and
+-- writes by its number. Rests on FirstThat (crate `number`) and on the rule of a state. Assumes nothing.
+use mathlib.Core.Bool.{false, not-eq-not, true}
+use mathlib.Core.List.{List}
+use mathlib.Core.Logic.{_≢_, _↔_}
+use mathlib.Core.Path.{_≡_, refl, _∙_}
+use Prim.Native.Nat.{ℕ, _+_, _-_, _≤_}
+use native.Mathlib.Omega.{arith}
+use lib.ListN.{drop, getD, length}
+use lib.Seq.{getD-append-add, getD-drop}
+use borrow.Author.Tests.{ltb-false, ne-eqb}
+use Rattle.lock.specs.Judged.{in-table, judges-outside, judges-state, rule-valid, shared-rule, valid-rule}
+use Rattle.lock.specs.Valid.{Between, SharedRange, Sized, Valid, nodesValid, valid}
+use Rattle.lock.specs.declared.State.{State}
+use Rattle.number.specs.FirstThat.{judges-short, none-holds, number-exactly}
+use Rattle.number.specs.Refused.{badState, done, wrongNode}
+use Rattle.number.specs.Tests.{first-holds}
+use Rattle.number.specs.declared.NodeNo.{NodeNo}
+use Rattle.rows.specs.Rows.{over}
+use Rattle.ask.specs.Ask.{answered, chain, chainBytes, chainFrom, chainList, chainNumber, chainRefusals, judged, refused}
+use Rattle.ask.specs.Meaning.{First, chainConditions}
+
+-- ---- a question that judges its state
+
+-- The shared numbers of a state that passes the test are in the ranges.
+pub shared-in-range : (s : State) → valid s ≡ true → SharedRange (s .shared)
+unfolding valid
+shared-in-range s h =
+    shared-rule (s .shared) (first-holds _ (nodesValid (s .shared .nodes) (s .node)) (first-holds _ _ h))
+
+-- In a valid state the question has its value.
+pub judged-valid : (s : State) (value : ℕ) → Valid s → judged s value ≡ answered value
+judged-valid s value rule = rw (rule-valid s rule)
+
+-- Any other state gives 1 and value 0.
+pub judged-refused : (s : State) (value : ℕ) → Sized s → ¬ Valid s → judged s value ≡ refused badState
+judged-refused s value sized broken =
+    let fails : valid s ≡ false = not-eq-not {a = valid s} {b = false} .0 (λ h. broken (valid-rule s sized h)) in
+    rw fails
+
+-- ---- the numbers of a chain question
+module _ (s : State) (from : NodeNo) (room : ℕ) where
+  -- Where it gives 0, the output has room for K numbers, and the chain starts at a node 1 to K.
+  pub enough : chainNumber s from room ≡ done → (s .shared .nodes ≤ room) × Between 1 (from .0) (s .shared .nodes)
+  unfolding chainNumber
+  enough h =
+      let off = none-holds (chainRefusals s from room) (omega arith) h in
+      (ltb-false _ _ (off .1 .0), in-table (from .0) (s .shared .nodes) (off .1 .1 .0))
+
+  -- Each number is given exactly when document 01 says: each test says what its condition says.
+  pub exactly : Sized s → (m : ℕ) → (chainNumber s from room ≡ m) ↔ First (chainConditions s from room) m
+  unfolding chainNumber
+  exactly sized =
+      number-exactly (chainRefusals s from room) (chainConditions s from room)
+      (judges-state s sized, λ j1. (judges-short room (s .shared .nodes), λ j4. (judges-outside wrongNode (from .0) (s .shared .nodes), λ j6. tt)))
+
+-- ---- what a chain question gives
+module _ (s : State) (from : NodeNo) (out : List ℕ) where
+  -- Where it is not refused, the list of at most K nodes.
+  pub chain-accepted : chainNumber s from (length out) ≡ done
+      → let list = chainFrom (s .shared .nodes) s from in
+      (chain s from out ≡ answered (length list)) × (chainBytes s from out ≡ over list out)
+  unfolding chain chainBytes chainList
+  chain-accepted e = rw e (refl, refl)
+
+  -- Where it is refused, value 0 and no bytes.
+  pub chain-refused : chainNumber s from (length out) ≢ done
+      → (chain s from out ≡ refused (chainNumber s from (length out))) × (chainBytes s from out ≡ out)
+  unfolding chain chainBytes chainList
+  chain-refused n = rw (ne-eqb (chainNumber s from (length out)) done n) (refl, refl)
+
+  -- From the list's end on every byte is as it was.
+  pub bytes-stay : (i : ℕ) → chain s from out .value ≤ i → getD (chainBytes s from out) i 0 ≡ getD out i 0
+  unfolding chain chainBytes
+  bytes-stay i h =
+      let list = chainList s from (length out) in
+      let e : length list + (i - length list) ≡ i = omega arith in
+      rw e at (getD-append-add list (drop (length list) out) (i - length list) 0 ∙ getD-drop (length list) out (i - length list) 0)

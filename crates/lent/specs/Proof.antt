@@ -1,0 +1,4 @@
+-- The arguments behind the theorems about the step over a lent saved state.
+-- Read: a step of what was read, and the bytes of the state after it. Answer: the answer, taken apart.
+pub mod Read
+pub mod Answer

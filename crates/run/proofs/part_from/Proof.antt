@@ -1,0 +1,52 @@
+-- `run::part_from` meets its contract. The part up to the end is all that follows; where there are not so many bytes nothing follows. Assumes nothing.
+use mathlib.Core.Path.{sym}
+use Prim.Native.Nat.{_-_}
+use native.Mathlib.Omega.{arith}
+use lib.ListN.{drop, drop-of-length-le, length, length-drop}
+use lib.Seq.{drop-length, take-all, take-nil}
+use borrow.Author.Needs.{needs}
+use Rattle.run.proofs.part_from.Statement.{statement}
+use Rattle.run.proofs.part_from.Tie as tie
+
+sub-result : tie.Need-sub-result
+sub-result c = search needs
+
+part-result-start : tie.Need-part-result-start
+part-result-start c = search needs
+
+part-result-end : tie.Need-part-result-end
+part-result-end c = search needs
+
+returns : tie.Need-returns
+returns c =
+    let a = c .before .before .args in
+    let b = a .schedule .now in
+    take-all (length b - a .at) (drop (a .at) b) (simp length-drop (omega arith))
+
+sub-result-2 : tie.Need-sub-result-2
+sub-result-2 c = search needs
+
+part-result-start-2 : tie.Need-part-result-start-2
+part-result-start-2 c = search needs
+
+part-result-end-2 : tie.Need-part-result-end-2
+part-result-end-2 c = search needs
+
+returns-2 : tie.Need-returns-2
+returns-2 c =
+    let a = c .before .before .args in
+    let b = a .schedule .now in
+    rw (drop-length b, take-nil) (sym (drop-of-length-le b {i = a .at} (omega arith)))
+
+pub part-from-spec : {M : Type 1} → statement M
+part-from-spec =
+    tie.close
+    (tie.spec
+    sub-result
+    part-result-start
+    part-result-end
+    returns
+    sub-result-2
+    part-result-start-2
+    part-result-end-2
+    returns-2)

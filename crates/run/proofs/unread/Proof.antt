@@ -1,0 +1,69 @@
+-- `run::unread` meets its contract. Each return is one case of `unread`, by what `part_from` ensures: past all bytes lies nothing, past none the whole.
+-- The counts are numbers of 32 bits, so that no sum of them wraps. Assumes nothing.
+use mathlib.Core.Path.{_∙_}
+use lib.Seq.{drop-length}
+use borrow.Author.Needs.{needs}
+use borrow.Author.Tests.{eq-eqb, le-leb, lt-leb, ne-eqb}
+use Rattle.run.specs.Run.{unread}
+use Rattle.run.proofs.unread.Statement.{statement}
+use Rattle.run.proofs.unread.Tie as tie
+
+part-from-requires : tie.Need-part-from-requires
+part-from-requires c κs = search needs
+
+returns : tie.Need-returns
+unfolding unread
+returns c =
+    rw (eq-eqb _ _ (c .before .if1 .taken)) (c .part-from .ensures ∙ drop-length (c .before .before .before .before .args .schedule .now))
+
+part-from-requires-2 : tie.Need-part-from-requires-2
+part-from-requires-2 c κs = search needs
+
+returns-2 : tie.Need-returns-2
+unfolding unread
+returns-2 c =
+    rw (ne-eqb _ _ (c .before .before .before .if1 .left), le-leb _ _ (c .before .if2 .taken)) (c .part-from2 .ensures)
+
+cast-taken : tie.Need-cast-taken
+cast-taken c = search needs
+
+cast-taken-2 : tie.Need-cast-taken-2
+cast-taken-2 c = search needs
+
+add-taken : tie.Need-add-taken
+add-taken c = search needs
+
+add-taken-2 : tie.Need-add-taken-2
+add-taken-2 c = search needs
+
+mul-part-from : tie.Need-mul-part-from
+mul-part-from c = search needs
+
+add-part-from : tie.Need-add-part-from
+add-part-from c = search needs
+
+part-from-requires-3 : tie.Need-part-from-requires-3
+part-from-requires-3 c κs = search needs
+
+returns-3 : tie.Need-returns-3
+unfolding unread
+returns-3 c =
+    let high = c .before .before .before in
+    rw (ne-eqb _ _ (high .before .before .if1 .left), lt-leb _ _ (high .if2 .left)) (c .part-from3 .ensures)
+
+pub unread-spec : {M : Type 1} → statement M
+unread-spec =
+    tie.close
+    (tie.spec
+    part-from-requires
+    returns
+    part-from-requires-2
+    returns-2
+    cast-taken
+    cast-taken-2
+    add-taken
+    add-taken-2
+    mul-part-from
+    add-part-from
+    part-from-requires-3
+    returns-3)

@@ -1,0 +1,102 @@
+-- `saved::put_nodes` meets its contract. The loop's invariant: the records of the first i nodes are stored. The measure is what is left of them.
+-- Rests on the laws of loops over records (crate `rows`). Assumes nothing.
+use mathlib.Core.Path.{_≡_, ap, refl, _∙_}
+use Prim.Native.Nat.{_-_, _≤_}
+use native.Mathlib.Omega.{arith}
+use lib.ListN.{length, take}
+use lib.Seq.{sets}
+use borrow.Author.Needs.{needs}
+use Rattle.lock.specs.Laws.{length-mapped}
+use Rattle.lock.specs.State.{tableSize, zeroNode}
+use Rattle.rows.specs.Loops.{put-more}
+use Rattle.rows.specs.Rows.{laid}
+use Rattle.saved.specs.Proof.Records.{node-lawful}
+use Rattle.saved.specs.Saved.{headerWidth, nodeRecord}
+use Rattle.saved.proofs.put_nodes.Statement.{statement}
+use Rattle.saved.proofs.put_nodes.Tie as tie
+
+abbrev Inv-loop : tie.InvT-loop
+Inv-loop out₀ s count i₀ out i =
+    (i ≤ count) × (out ≡ sets out₀ headerWidth (laid (nodeRecord (s .shared .nodes)) (take i (s .node)))) × (length out ≡ length out₀)
+
+abbrev μ-loop : tie.MeasureT-loop
+μ-loop out₀ s count i₀ out i = count - i
+
+cast-count : tie.Need-cast-count Inv-loop μ-loop
+cast-count c = search needs
+
+loop-holds : tie.Need-loop-holds Inv-loop μ-loop
+unfolding laid
+loop-holds c = (search needs, refl, refl)
+
+mul-node-bytes : tie.Need-mul-node-bytes Inv-loop μ-loop
+mul-node-bytes c = search needs
+
+element-copy-out-node-bytes : tie.Need-element-copy-out-node-bytes Inv-loop μ-loop
+element-copy-out-node-bytes c = search needs
+
+node-bytes-requires : tie.Need-node-bytes-requires Inv-loop μ-loop
+node-bytes-requires c κs = search needs
+
+mul-put : tie.Need-mul-put Inv-loop μ-loop
+mul-put c = search needs
+
+add-put : tie.Need-add-put Inv-loop μ-loop
+add-put c = search needs
+
+slice-aggregate-put : tie.Need-slice-aggregate-put Inv-loop μ-loop
+slice-aggregate-put c = search needs
+
+put-requires : tie.Need-put-requires Inv-loop μ-loop
+put-requires c κs = omega (arith, ap length (c .before .before .node-bytes .ensures))
+
+add-i : tie.Need-add-i Inv-loop μ-loop
+add-i c = search needs
+
+loop-less : tie.Need-loop-less Inv-loop μ-loop
+loop-less c = search needs
+
+-- the table's length, as its type says it
+room : (c : tie.Start Inv-loop μ-loop) → length (c .args .t1 .node) ≡ tableSize
+room c = search length-mapped
+
+loop-again : tie.Need-loop-again Inv-loop μ-loop
+loop-again c =
+    let l = c .before .before .before .before .before .before .before .before .loop in
+    let start = c .before .before .before .before .before .before .before .before .before .before in
+    let s = start .args .t1 in
+    let K = s .shared .nodes in
+    let more = put-more (nodeRecord K) (node-lawful K) (start .args .out .now) headerWidth (l .i) (s .node) zeroNode (omega (arith, room start)) in (
+      search needs,
+      c .before .before .put .ensures ∙ rw (l .inv .1, c .before .before .before .before .before .node-bytes .ensures) more,
+      c .before .before .put .kept .0 ∙ l .inv .2,
+    )
+
+same-length : tie.Need-same-length Inv-loop μ-loop
+same-length c = search needs
+
+returns : tie.Need-returns Inv-loop μ-loop
+returns c =
+    let e : c .before .loop .i ≡ c .before .before .before .args .t1 .shared .nodes = omega arith in
+    rw e at (c .before .loop .inv .1)
+
+pub put-nodes-spec : {M : Type 1} → statement M
+put-nodes-spec =
+    tie.close
+    (tie.spec
+    Inv-loop
+    μ-loop
+    cast-count
+    loop-holds
+    mul-node-bytes
+    element-copy-out-node-bytes
+    node-bytes-requires
+    mul-put
+    add-put
+    slice-aggregate-put
+    put-requires
+    add-i
+    loop-less
+    loop-again
+    same-length
+    returns)

@@ -1,0 +1,87 @@
+-- `saved::with_threads` meets its contract. The loop's invariant: the first i threads are those of the first i records. The measure is what is left of
+-- them. Rests on the laws of loops over records (crate `rows`). Assumes nothing.
+use mathlib.Core.Path.{_≡_, refl}
+use Prim.Native.Nat.{_-_, _≤_}
+use native.Mathlib.Omega.{arith}
+use lib.ListN.{length}
+use borrow.Author.Needs.{needs}
+use Rattle.lock.specs.Laws.{length-mapped}
+use Rattle.lock.specs.State.{tableSize, zeroThread}
+use Rattle.rows.specs.Loops.{fill-more}
+use Rattle.rows.specs.Rows.{values}
+use Rattle.saved.specs.Inner.{withThreads}
+use Rattle.saved.specs.Saved.{threadRecord}
+use Rattle.saved.proofs.with_threads.Statement.{statement}
+use Rattle.saved.proofs.with_threads.Tie as tie
+
+abbrev Inv-loop : tie.InvT-loop
+Inv-loop b filled₀ n i₀ filled i = (i ≤ n) × (filled ≡ withThreads filled₀ i b)
+
+abbrev μ-loop : tie.MeasureT-loop
+μ-loop b filled₀ n i₀ filled i = n - i
+
+cast-n : tie.Need-cast-n Inv-loop μ-loop
+cast-n c = search needs
+
+loop-holds : tie.Need-loop-holds Inv-loop μ-loop
+unfolding values
+loop-holds c = (search needs, refl)
+
+mul-rest : tie.Need-mul-rest Inv-loop μ-loop
+mul-rest c = search needs
+
+rest-requires : tie.Need-rest-requires Inv-loop μ-loop
+rest-requires c κs = search needs
+
+thread-at-requires : tie.Need-thread-at-requires Inv-loop μ-loop
+thread-at-requires c κs = search needs
+
+mul-v : tie.Need-mul-v Inv-loop μ-loop
+mul-v c = search needs
+
+element-set-from-v : tie.Need-element-set-from-v Inv-loop μ-loop
+element-set-from-v c = search needs
+
+add-i : tie.Need-add-i Inv-loop μ-loop
+add-i c = search needs
+
+loop-less : tie.Need-loop-less Inv-loop μ-loop
+loop-less c = search needs
+
+-- the table's length, as its type says it
+room : (c : tie.Start Inv-loop μ-loop) → length (c .args .s .thread) ≡ tableSize
+room c = search length-mapped
+
+loop-again : tie.Need-loop-again Inv-loop μ-loop
+loop-again c =
+    let l = c .before .before .before .loop in
+    let start = c .before .before .before .before .before .before in
+    let s = start .args .s in
+    let b = start .args .b .now in
+    let more = fill-more (threadRecord (s .shared .nodes)) (l .i) b (s .thread) zeroThread (omega (arith, room start)) in (
+      search needs,
+      rw (l .inv .1, c .thread-at .ensures, c .before .rest .ensures .0) (λ j. record { shared = s .shared; node = s .node; thread = more j }),
+    )
+
+returns : tie.Need-returns Inv-loop μ-loop
+returns c =
+    let e : c .before .loop .i ≡ c .before .before .before .before .args .s .shared .threads = omega arith in
+    rw e at (c .before .loop .inv .1)
+
+pub with-threads-spec : {M : Type 1} → statement M
+with-threads-spec =
+    tie.close
+    (tie.spec
+    Inv-loop
+    μ-loop
+    cast-n
+    loop-holds
+    mul-rest
+    rest-requires
+    thread-at-requires
+    mul-v
+    element-set-from-v
+    add-i
+    loop-less
+    loop-again
+    returns)
