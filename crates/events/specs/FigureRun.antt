@@ -8,7 +8,7 @@ use Prim.Native.Nat.{ℕ}
 use Rattle.figure.specs.Figure.{Figure}
 use Rattle.lock.specs.declared.State.{State}
 use Rattle.number.specs.Refused.{done}
-use Rattle.step.specs.Conditions.{First, conditions}
+use Rattle.step.specs.Conditions.{First, eventConditions}
 use Rattle.step.specs.Demands.{Possible}
 use Rattle.events.specs.Row.{goesOn, waits}
 use Rattle.events.specs.declared.Event.{Event}
@@ -22,8 +22,8 @@ pub data FigureRun : State → List Event → List ℕ → State → Type 0 wher
       → FigureRun s′ es later s″ → FigureRun s (e ∷ es) (done ∷ later) s″
   -- waited: the table gives a wait's number, the state stays, and the run goes on
   waited : {s s″ : State} {e : Event} {es : List Event} {m : ℕ} {later : List ℕ}
-      → First (conditions s (e .thread) (e .node)) m → waits m ≡ true
+      → First (eventConditions s (e .thread) (e .node)) m → waits m ≡ true
       → FigureRun s es later s″ → FigureRun s (e ∷ es) (m ∷ later) s″
   -- stopped: the table gives a number after which no run goes on, the state stays, and later events are not taken
   stopped : {s : State} {e : Event} {es : List Event} {m : ℕ}
-      → First (conditions s (e .thread) (e .node)) m → goesOn m ≡ false → FigureRun s (e ∷ es) (m ∷ []) s
+      → First (eventConditions s (e .thread) (e .node)) m → goesOn m ≡ false → FigureRun s (e ∷ es) (m ∷ []) s

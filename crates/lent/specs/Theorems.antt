@@ -1,11 +1,12 @@
 -- What the step over a lent saved state promises: the theorems that a buyer needs, each under a plain sentence. The arguments are in Proof.
 -- Assumes nothing.
 use mathlib.Core.List.{List}
-use mathlib.Core.Logic.{_≢_}
+use mathlib.Core.Logic.{_≢_, _↔_}
 use mathlib.Core.Path.{_≡_}
 use Prim.Native.Nat.{ℕ}
 use lib.ListN.{length}
 use Rattle.lock.specs.Fresh.{opened}
+use Rattle.number.specs.First.{First}
 use Rattle.number.specs.OneResult.{only}
 use Rattle.number.specs.Refused.{badState, done}
 use Rattle.number.specs.declared.NodeNo.{NodeNo}
@@ -13,11 +14,15 @@ use Rattle.number.specs.declared.ThreadNo.{ThreadNo}
 use Rattle.saved.specs.Saved.{read}
 use Rattle.saved.specs.Theorems.{read-save}
 use Rattle.step.specs.Step.{step}
-use Rattle.lent.specs.Lent.{lentAnswer, lentBytes}
+use Rattle.lent.specs.Lent.{lentAnswer, lentBytes, lentConditions}
 use Rattle.lent.specs.Proof.Answer
 use Rattle.lent.specs.Proof.Read
 
--- Bytes that cannot be read are answered 1 ..
+-- The answer is the number of the first condition of document 01 that applies: 1, the bytes break a rule, and then the event's own, 5 to 12.
+pub lent-exactly : (b : List ℕ) (t : ThreadNo) (n : NodeNo) (m : ℕ) → (lentAnswer b t n ≡ m) ↔ First (lentConditions b t n) m
+lent-exactly = Answer.exactly
+
+-- So bytes that cannot be read are answered 1 ..
 pub lent-bad : (b : List ℕ) (t : ThreadNo) (n : NodeNo) → read b .number ≢ done → lentAnswer b t n ≡ badState
 lent-bad = Answer.of-bad
 

@@ -2,7 +2,7 @@
 -- that the tests give is that of the first condition that applies, and no other number is. Assumes nothing.
 use mathlib.Core.Bool.{Bool, cond, false, true, true≢false}
 use mathlib.Core.List.{List, [], _∷_, _++_}
-use mathlib.Core.Logic.{_↔_, inl, inr}
+use mathlib.Core.Logic.{_↔_, inl, inr, ⊎-elim}
 use mathlib.Core.Path.{_≡_, refl, subst, sym, _∙_}
 use Prim.Native.Nat.{ℕ, _≤_, _<_}
 use native.Mathlib.Omega.{arith}
@@ -42,6 +42,10 @@ first-one (c ∷ cs) m m′ (inr h) (inr h′) = first-one cs m m′ (h .1) (h�
 -- a test that never holds says what a condition that never applies says
 pub never : (number : ℕ) (c : Condition) → (c .applies → ⊥) → Reflects (record { number = number; applies = false }) c
 never number c h = record { holds = λ e. absurd (true≢false (sym e)); fails = λ e. h }
+
+-- a condition that does not apply may be left out in front
+pub first-behind : (c : Condition) (cs : List Condition) (m : ℕ) → ¬ c .applies → First (c ∷ cs) m ↔ First cs m
+first-behind c cs m off = (⊎-elim (λ f. absurd (off (f .0))) (λ f. f .1), λ f. inr (off, f))
 
 -- ---- numbers that are all different: each condition's own number tells that it applies and none before it does
 

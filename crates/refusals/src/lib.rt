@@ -30,7 +30,7 @@ pub enum Count {
     Low,
 }
 
-pub fn count_of(a: Act) -> Count
+fn count_of(a: Act) -> Count
     ensures { λ r. ⌜ r ≡ counts a ⌝ }
 {
     match a {

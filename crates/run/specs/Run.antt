@@ -72,10 +72,27 @@ runBytes s b out = cond (eqb (refusal s b (length out)) done) (over (answersOf s
 
 -- ---- "It also hands back the unread part of the caller's own schedule"
 
+-- 1 to 4, which "come before the first event"
+abbrev pub beforeEvents : ℕ → Bool
+beforeEvents number = leb number tooShort
+
 -- how many events a report that a stop ended has taken: those executed, those that waited, and the one that stopped
 abbrev pub taken : Report → ℕ
 taken r = r .executed + r .waited + 1
 
--- "what follows the stopping event, nothing if none stopped it, the whole of it after refusals 1 to 4"
-unfoldable pub unread : List ℕ → Report → List ℕ
-unread b r = cond (eqb (r .stop) done) [] (cond (leb (r .stop) tooShort) b (drop (startOf (taken r)) b))
+-- a place of b, or its end where the place lies past it
+abbrev pub upToEnd : ℕ → List ℕ → ℕ
+upToEnd place b = cond (leb place (length b)) place (length b)
+
+-- where the unread part begins: "what follows the stopping event, nothing if none stopped it, the whole of it after refusals 1 to 4"
+unfoldable pub unreadFrom : List ℕ → Report → ℕ
+unreadFrom b r = cond (eqb (r .stop) done) (length b) (cond (beforeEvents (r .stop)) 0 (upToEnd (startOf (taken r)) b))
+
+-- what is handed back: the bytes from there on ..
+abbrev pub unread : List ℕ → Report → List ℕ
+unread b r = drop (unreadFrom b r) b
+
+-- .. and no copy of them: they lie in the caller's own memory, so many bytes on. (To the prover a slice is the place where it lies, which is a block and
+-- a place in the block, and the bytes that stand there.)
+abbrev pub onward : ℕ × ℕ → ℕ → ℕ × ℕ
+onward place n = (place .0, place .1 + n)

@@ -23,7 +23,7 @@ use Rattle.run.specs.Proof.Refused
 use Rattle.run.specs.Proof.Runs
 use Rattle.run.specs.Proof.Split
 use Rattle.run.specs.Proof.Unread
-use Rattle.run.specs.Run.{answersOf, ran, refusal, reportOf, reported, run, runBytes, taken, unread}
+use Rattle.run.specs.Run.{answersOf, onward, ran, refusal, reportOf, reported, run, runBytes, taken, unread, unreadFrom}
 use Rattle.run.specs.declared.Ran.{Ran}
 use Rattle.run.specs.declared.Report.{Report}
 pub use Rattle.run.specs.Demands.{Counted, Invented, RunTool, executedBy, inventsExecuted, inventsWaited, waitedBy}
@@ -123,8 +123,8 @@ module _ (b : List ℕ) (r : Report) where
   pub unread-past : tooShort < r .stop → length b ≤ startOf (taken r) → unread b r ≡ []
   unread-past = Unread.past-the-end b r
 
-  -- So it is always what follows some number of the schedule's bytes.
-  pub unread-part : (k : ℕ) × (unread b r ≡ drop k b)
+  -- So it always begins in the schedule or at its end: it is a part of it.
+  pub unread-part : unreadFrom b r ≤ length b
   unread-part = Unread.part b r
 
 -- ---- the unread part of the run's own schedule
@@ -199,9 +199,11 @@ pub run-one-result : (s : State) (b out : List ℕ) (r r′ : Ran) (o o′ : Lis
     → r′ ≡ run s b out → o′ ≡ runBytes s b out → (r ≡ r′) × (o ≡ o′)
 run-one-result s b out r r′ o o′ p q p′ q′ = (only p p′, only q q′)
 
--- Two parts that both meet the promise of `unread` are equal.
-pub unread-one-result : (b : List ℕ) (report : Report) (r r′ : List ℕ) → r ≡ unread b report → r′ ≡ unread b report → r ≡ r′
-unread-one-result b report r r′ = only
+-- Two parts that both meet the promise of `unread` are equal: they lie at the same place, and have the same bytes.
+pub unread-one-result : (place : ℕ × ℕ) (b : List ℕ) (report : Report) (at at′ : ℕ × ℕ) (r r′ : List ℕ)
+    → at ≡ onward place (unreadFrom b report) → r ≡ unread b report → at′ ≡ onward place (unreadFrom b report) → r′ ≡ unread b report
+    → (at ≡ at′) × (r ≡ r′)
+unread-one-result place b report at at′ r r′ p q p′ q′ = (only p p′, only q q′)
 
 -- ---- demand 2
 

@@ -7,7 +7,7 @@ ghost use lib.ListN.{drop, length};
 ghost use Rattle.events.specs.Row.{goesOn, waits as isWait};
 ghost use Rattle.rows.specs.Rows.{over};
 ghost use Rattle.run.specs.Run.{answersOf, differ as differOf, ranOver, refusal as refusalOf, reported, run as runOf, runBytes, tallied};
-ghost use Rattle.run.specs.Run.{unread as unreadOf};
+ghost use Rattle.run.specs.Run.{beforeEvents, onward, unread as unreadOf, unreadFrom, upToEnd};
 ghost use Rattle.schedule.specs.Schedule.{eventsIn, good, mostBytes};
 use lock::Shared;
 use lock::State;
@@ -143,9 +143,10 @@ pub fn run(s: State, schedule: &[u8], answers: &mut [u8]) -> Ran
 
 // ---- the unread part
 
-// What follows the first `at` bytes; nothing where there are not so many.
+// What follows the first `at` bytes, where it lies; nothing, at the end, where there are not so many.
 fn part_from<'a>(schedule: &'a [u8], at: usize) -> &'a [u8]
-    ensures { λ r. ⌜ now r ≡ drop at (now (schedule .entry)) ⌝ }
+    ensures bytes { λ r. ⌜ now r ≡ drop (upToEnd at (now (schedule .entry))) (now (schedule .entry)) ⌝ }
+    ensures own { λ r. ⌜ r .ptr ≡ onward (schedule .entry .ptr) (upToEnd at (now (schedule .entry))) ⌝ }
 {
     let end = schedule.len();
     if at <= end {
@@ -154,16 +155,24 @@ fn part_from<'a>(schedule: &'a [u8], at: usize) -> &'a [u8]
     &schedule[end..]
 }
 
+// The refusals that come before the first event: 1 to 4.
+fn before_events(number: u8) -> bool
+    ensures { λ r. ⌜ r ≡ beforeEvents number ⌝ }
+{
+    number <= TOO_SHORT
+}
+
 // The unread part of the caller's own schedule: what follows the stopping event, nothing if none stopped the run, the whole of it
-// after refusals 1 to 4. Whatever the report says, the part is one of this schedule.
+// after refusals 1 to 4. Whatever the report says, it is a part of this schedule, and no copy.
 pub fn unread<'a>(schedule: &'a [u8], report: Report) -> &'a [u8]
-    ensures { λ r. ⌜ now r ≡ unreadOf (now (schedule .entry)) report ⌝ }
+    ensures bytes { λ r. ⌜ now r ≡ unreadOf (now (schedule .entry)) report ⌝ }
+    ensures own { λ r. ⌜ r .ptr ≡ onward (schedule .entry .ptr) (unreadFrom (now (schedule .entry)) report) ⌝ }
 {
     let end = schedule.len();
     if report.stop == DONE {
         return part_from(schedule, end);
     }
-    if report.stop <= TOO_SHORT {
+    if before_events(report.stop) {
         return part_from(schedule, 0);
     }
     let taken = report.executed as usize + report.waited as usize + 1;

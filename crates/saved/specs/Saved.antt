@@ -140,11 +140,15 @@ module _ (b : List ℕ) where
   T = headerIn b .threads
 
   pub record SavedFile : Type 0 where
+    -- "Length is exactly 23 + 4K + 11T"
     pub exact : length b ≡ size K T
+    -- the header
     pub header-mark : MarkAt b 0 letterL letterH
     pub shared : SharedRange (headerIn b)
+    -- the K nodes behind it
     pub node-mark : (i : ℕ) → i < K → MarkAt b (headerWidth + nodeWidth * i) letterL letterN
     pub node : (i : ℕ) → i < K → NodeRange K (nodeIn (drop (headerWidth + nodeWidth * i) b))
+    -- and the T threads behind these
     pub thread-mark : (i : ℕ) → i < T → MarkAt b (threadsPlace K + threadWidth * i) letterL letterT
     pub thread : (i : ℕ) → i < T → ThreadRange K (threadIn (drop (threadsPlace K + threadWidth * i) b))
 

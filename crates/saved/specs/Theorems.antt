@@ -93,6 +93,20 @@ pub save-accepted : (s : State) (out : List ℕ) → Sized s → saveNumber s ou
     → let n = sizeOf s in (take n (savedOver s out) ≡ bytesOf s) × (drop n (savedOver s out) ≡ drop n out)
 save-accepted = Save.written
 
+-- Saving and then reading gives the state back ..
+pub save-then-read : (s : State) (out : List ℕ) → Sized s → saveNumber s out ≡ done → read (take (sizeOf s) (savedOver s out)) ≡ opened done s
+save-then-read s out sized h = ap read (save-accepted s out sized h .0) ∙ read-save s (save-done s out sized .0 h .0)
+
+-- .. and reading and then saving, into an output that is long enough, gives the same bytes back.
+pub read-then-save : (b out : List ℕ) → Bytes b → read b .number ≡ done → length b ≤ length out
+    → let s = read b .state in (saveNumber s out ≡ done) × (take (length b) (savedOver s out) ≡ b) × (drop (length b) (savedOver s out) ≡ drop (length b) out)
+read-then-save b out bytes h l =
+    let s = read b .state in
+    let valid = read-valid b h in
+    let accepted = save-done s out (valid .sized) .1 (valid, rw (read-size b h) at l) in
+    let written = rw (← read-size b h) at (save-accepted s out (valid .sized) accepted) in
+    (accepted, written .0 ∙ save-read b bytes h, written .1)
+
 -- A refused save leaves every byte of the output unchanged.
 pub save-refused : (s : State) (out : List ℕ) → saveNumber s out ≢ done → savedOver s out ≡ out
 save-refused = Save.unchanged

@@ -26,30 +26,30 @@ use number::Place;
 use number::TOO_SHORT;
 
 // How many bytes each kind of record has.
-pub const HEADER_WIDTH: usize = 23;
+const HEADER_WIDTH: usize = 23;
 
-pub const NODE_WIDTH: usize = 4;
+const NODE_WIDTH: usize = 4;
 
-pub const THREAD_WIDTH: usize = 11;
+const THREAD_WIDTH: usize = 11;
 
 // ---- places
 
 // Where the records of threads begin.
-pub fn threads_place(nodes: u8) -> usize
+fn threads_place(nodes: u8) -> usize
     ensures { λ r. ⌜ r ≡ threadsPlace nodes ⌝ }
 {
     HEADER_WIDTH + NODE_WIDTH * (nodes as usize)
 }
 
 // How many bytes a saved state has.
-pub fn size(nodes: u8, threads: u8) -> usize
+fn size(nodes: u8, threads: u8) -> usize
     ensures { λ r. ⌜ r ≡ sizeOf nodes threads ⌝ }
 {
     HEADER_WIDTH + NODE_WIDTH * (nodes as usize) + THREAD_WIDTH * (threads as usize)
 }
 
 // The part of b from a place on.
-pub fn rest(b: &[u8], at: usize) -> &[u8]
+fn rest(b: &[u8], at: usize) -> &[u8]
     requires { ⌜ at ≤ length (now b) ⌝ }
     ensures { λ r. ⌜ (now r ≡ drop at (now (b .entry))) × (length (now r) ≡ length (now (b .entry)) - at) ⌝ }
 {
@@ -72,7 +72,7 @@ fn four_at(b: &[u8], at: usize) -> u32
     wide(b[at]) + 256 * wide(b[at + 1]) + 65_536 * wide(b[at + 2]) + 16_777_216 * wide(b[at + 3])
 }
 
-pub fn header_at(b: &[u8]) -> Shared
+fn header_at(b: &[u8]) -> Shared
     requires { ⌜ headerWidth ≤ length (now b) ⌝ }
     ensures { λ r. ⌜ r ≡ headerIn (now (b .entry)) ⌝ }
 {
@@ -93,7 +93,7 @@ pub fn header_at(b: &[u8]) -> Shared
     }
 }
 
-pub fn node_at(b: &[u8]) -> Node
+fn node_at(b: &[u8]) -> Node
     requires { ⌜ nodeWidth ≤ length (now b) ⌝ }
     ensures { λ r. ⌜ r ≡ nodeIn (now (b .entry)) ⌝ }
 {
@@ -103,7 +103,7 @@ pub fn node_at(b: &[u8]) -> Node
     }
 }
 
-pub fn thread_at(b: &[u8]) -> Thread
+fn thread_at(b: &[u8]) -> Thread
     requires { ⌜ threadWidth ≤ length (now b) ⌝ }
     ensures { λ r. ⌜ r ≡ threadIn (now (b .entry)) ⌝ }
 {
@@ -174,7 +174,7 @@ fn threads_good(b: &[u8], nodes: u8, threads: u8) -> bool
 }
 
 // The bytes are a saved state: their length is exact, each record has its mark, and each number is in its range.
-pub fn good(bytes: &[u8]) -> bool
+fn good(bytes: &[u8]) -> bool
     ensures { λ r. ⌜ r ≡ savedGood (now (bytes .entry)) ⌝ }
 {
     if bytes.len() < HEADER_WIDTH {
@@ -272,7 +272,7 @@ fn four_bytes(n: u32) -> [u8; 4]
     ]
 }
 
-pub fn header_bytes(sh: Shared) -> [u8; HEADER_WIDTH]
+fn header_bytes(sh: Shared) -> [u8; HEADER_WIDTH]
     ensures { λ r. ⌜ r ≡ headerBytes sh ⌝ }
 {
     let low = four_bytes(sh.low.0);
@@ -306,13 +306,13 @@ pub fn header_bytes(sh: Shared) -> [u8; HEADER_WIDTH]
     ]
 }
 
-pub fn node_bytes(v: Node) -> [u8; NODE_WIDTH]
+fn node_bytes(v: Node) -> [u8; NODE_WIDTH]
     ensures { λ r. ⌜ r ≡ nodeBytes v ⌝ }
 {
     [b'L', b'N', v.next.0, v.locked]
 }
 
-pub fn thread_bytes(v: Thread) -> [u8; THREAD_WIDTH]
+fn thread_bytes(v: Thread) -> [u8; THREAD_WIDTH]
     ensures { λ r. ⌜ r ≡ threadBytes v ⌝ }
 {
     let slot = four_bytes(v.slot.0);
@@ -334,7 +334,7 @@ pub fn thread_bytes(v: Thread) -> [u8; THREAD_WIDTH]
 // ---- writing
 
 // r in out from a place on.
-pub fn put(out: &mut [u8], at: usize, r: &[u8])
+fn put(out: &mut [u8], at: usize, r: &[u8])
     requires { ⌜ at + length (now r) ≤ length (now out) ⌝ }
     ensures { λ _. ⌜ now (out .exit) ≡ sets (now (out .entry)) at (now (r .entry)) ⌝ }
 {

@@ -43,12 +43,11 @@ pub data Waits (s : State) (t : ThreadNo) : Type 0 where
 
 -- ---- the conditions
 
-abbrev pub conditions : State → ThreadNo → NodeNo → List Condition
-conditions s t n =
-    -- 1 | the saved state breaks a rule above
-    badState given-when (¬ Valid s)
+-- of an event in a state that was judged before
+abbrev pub eventConditions : State → ThreadNo → NodeNo → List Condition
+eventConditions s t n =
     -- 5 | the event's thread is not 1 to T
-    ∷ noSuchThread given-when (¬ Between 1 (t .0) (s .shared .threads))
+    noSuchThread given-when (¬ Between 1 (t .0) (s .shared .threads))
     -- 6 | at line 11 the node is not 1 to K; elsewhere it is not 0
     ∷ wrongNode given-when (((line s t ≡ 11) × (¬ Between 1 (n .0) (s .shared .nodes))) ⊎ ((line s t ≢ 11) × (n .0 ≢ 0)))
     -- 7 | line 11 with entered = 1,000,000
@@ -64,3 +63,10 @@ conditions s t n =
     -- 12 | the line waits and its condition does not hold
     ∷ mustWait given-when Waits s t
     ∷ []
+
+-- of a step
+abbrev pub conditions : State → ThreadNo → NodeNo → List Condition
+conditions s t n =
+    -- 1 | the saved state breaks a rule above
+    badState given-when (¬ Valid s)
+    ∷ eventConditions s t n

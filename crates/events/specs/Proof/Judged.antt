@@ -2,18 +2,19 @@
 -- stop: the first condition that applies has one of the table's numbers. Rests on the step's theorems. Assumes nothing.
 use mathlib.Core.Bool.{cond, false}
 use mathlib.Core.List.{List, [], _∷_, _++_}
-use mathlib.Core.Logic.{_≢_, inl, inr}
+use mathlib.Core.Logic.{_≢_, _↔_, inl, inr}
 use mathlib.Core.Path.{_≡_, ap, refl, subst, sym, _∙_}
 use Prim.Native.Nat.{ℕ}
 use native.Mathlib.Decide.{ℕ-discrete}
 use native.Mathlib.Omega.{arith}
-use lib.ListN.{drop}
 use Rattle.lock.specs.Valid.{Between, Valid}
 use Rattle.lock.specs.declared.State.{State}
-use Rattle.number.specs.Refused.{done, noPlaceLeft, noSuchThread}
+use Rattle.number.specs.First.{_given-when_}
+use Rattle.number.specs.FirstThat.{first-behind}
+use Rattle.number.specs.Refused.{badState, done, noPlaceLeft, noSuchThread}
 use Rattle.number.specs.declared.NodeNo.{NodeNo}
 use Rattle.number.specs.declared.ThreadNo.{ThreadNo}
-use Rattle.step.specs.Conditions.{Condition, First, conditions}
+use Rattle.step.specs.Conditions.{Condition, First, conditions, eventConditions}
 use Rattle.step.specs.Step.{advance, step, stepped}
 use Rattle.step.specs.Theorems.{advance-is-step, exactly-when, refused-unchanged, size-kept, valid-kept}
 use Rattle.step.specs.declared.Stepped.{Stepped}
@@ -36,14 +37,18 @@ module _ (s : State) (t : ThreadNo) (n : NodeNo) (rule : Valid s) where
       go (yes h) = valid-kept s t n rule h
       go (no h) = rw (refused-unchanged s t n h) rule
 
+  -- condition 1 does not apply, so the first that applies is the event's
+  events-own : (m : ℕ) → First (conditions s t n) m ↔ First (eventConditions s t n) m
+  events-own m = first-behind (badState given-when (¬ Valid s)) (eventConditions s t n) m (λ broken. broken rule)
+
   -- the answer is the number of the first condition that applies
-  pub answer-first : First (conditions s t n) (advance s t n .answer)
-  answer-first = rw is-step (exactly-when s t n (rule .sized) (step s t n .answer) .0 refl)
+  pub answer-first : First (eventConditions s t n) (advance s t n .answer)
+  answer-first = rw is-step (events-own (step s t n .answer) .0 (exactly-when s t n (rule .sized) (step s t n .answer) .0 refl))
 
   -- a number of the table that is not 0 is the answer, and the state stays
-  pub refused : (m : ℕ) → First (conditions s t n) m → m ≢ done → advance s t n ≡ stepped m s
+  pub refused : (m : ℕ) → First (eventConditions s t n) m → m ≢ done → advance s t n ≡ stepped m s
   refused m f off =
-      let e : step s t n .answer ≡ m = exactly-when s t n (rule .sized) m .1 f in
+      let e : step s t n .answer ≡ m = exactly-when s t n (rule .sized) m .1 (events-own m .1 f) in
       let same : step s t n .state ≡ s = refused-unchanged s t n (λ z. off (sym e ∙ z)) in
       is-step ∙ (λ i. record { answer = e i; state = same i })
 
@@ -69,15 +74,9 @@ OnOrWithin m = cond (goesOn m) (Unit {0}) (Between noSuchThread m noPlaceLeft)
 
 pub stops-within : (s : State) (t : ThreadNo) (n : NodeNo) → Valid s → goesOn (advance s t n .answer) ≡ false
     → Between noSuchThread (advance s t n .answer) noPlaceLeft
-stops-within s t n rule h = rw h at (go (answer-first s t n rule))
-  where
-    -- the numbers of the table behind 1, which a valid state is not given
-    all : AllNumbers OnOrWithin (drop 1 (conditions s t n))
-    all = omega arith
-
-    go : First (conditions s t n) (advance s t n .answer) → OnOrWithin (advance s t n .answer)
-    go (inl f) = absurd (f .0 rule)
-    go (inr f) = first-has OnOrWithin (drop 1 (conditions s t n)) (advance s t n .answer) all (f .1)
+stops-within s t n rule h =
+    let all : AllNumbers OnOrWithin (eventConditions s t n) = omega arith in
+    rw h at (first-has OnOrWithin (eventConditions s t n) (advance s t n .answer) all (answer-first s t n rule))
 
 -- ---- rows: each event keeps the state valid, and T and K
 keeps-valid : (s : State) (e : Event) → Valid s → Valid (advance s (e .thread) (e .node) .state)

@@ -1,10 +1,13 @@
 -- `run::part_from` meets its contract. The part up to the end is all that follows; where there are not so many bytes nothing follows. Assumes nothing.
-use mathlib.Core.Path.{sym}
+use mathlib.Core.Path.{_≡_, refl}
 use Prim.Native.Nat.{_-_}
+use native.Mathlib.Nat.{add-comm}
 use native.Mathlib.Omega.{arith}
-use lib.ListN.{drop, drop-of-length-le, length, length-drop}
+use lib.ListN.{drop, length, length-drop}
 use lib.Seq.{drop-length, take-all, take-nil}
 use borrow.Author.Needs.{needs}
+use borrow.Author.Tests.{le-leb, lt-leb}
+use Rattle.run.specs.Run.{upToEnd}
 use Rattle.run.proofs.part_from.Statement.{statement}
 use Rattle.run.proofs.part_from.Tie as tie
 
@@ -21,7 +24,8 @@ returns : tie.Need-returns
 returns c =
     let a = c .before .before .args in
     let b = a .schedule .now in
-    take-all (length b - a .at) (drop (a .at) b) (simp length-drop (omega arith))
+    let there : upToEnd (a .at) b ≡ a .at = rw (le-leb (a .at) (length b) (omega arith)) in
+    rw there (take-all (length b - a .at) (drop (a .at) b) (simp length-drop (omega arith)), λ i. (a .schedule .ptr .0, add-comm (a .at) (a .schedule .ptr .1) i))
 
 sub-result-2 : tie.Need-sub-result-2
 sub-result-2 c = search needs
@@ -36,7 +40,8 @@ returns-2 : tie.Need-returns-2
 returns-2 c =
     let a = c .before .before .args in
     let b = a .schedule .now in
-    rw (drop-length b, take-nil) (sym (drop-of-length-le b {i = a .at} (omega arith)))
+    let past : upToEnd (a .at) b ≡ length b = rw (lt-leb (a .at) (length b) (omega arith)) in
+    rw (past, drop-length b, take-nil) (refl, λ i. (a .schedule .ptr .0, add-comm (length b) (a .schedule .ptr .1) i))
 
 pub part-from-spec : {M : Type 1} → statement M
 part-from-spec =

@@ -1,10 +1,11 @@
 -- `run::unread` meets its contract. Each return is one case of `unread`, by what `part_from` ensures: past all bytes lies nothing, past none the whole.
 -- The counts are numbers of 32 bits, so that no sum of them wraps. Assumes nothing.
-use mathlib.Core.Path.{_∙_}
-use lib.Seq.{drop-length}
+use mathlib.Core.Path.{_≡_, sym, _∙_}
+use native.Mathlib.Omega.{arith}
+use lib.ListN.{length}
 use borrow.Author.Needs.{needs}
-use borrow.Author.Tests.{eq-eqb, le-leb, lt-leb, ne-eqb}
-use Rattle.run.specs.Run.{unread}
+use borrow.Author.Tests.{eq-eqb, le-leb, ne-eqb}
+use Rattle.run.specs.Run.{unreadFrom, upToEnd}
 use Rattle.run.proofs.unread.Statement.{statement}
 use Rattle.run.proofs.unread.Tie as tie
 
@@ -12,17 +13,26 @@ part-from-requires : tie.Need-part-from-requires
 part-from-requires c κs = search needs
 
 returns : tie.Need-returns
-unfolding unread
+unfolding unreadFrom
 returns c =
-    rw (eq-eqb _ _ (c .before .if1 .taken)) (c .part-from .ensures ∙ drop-length (c .before .before .before .before .args .schedule .now))
+    let b = c .before .before .before .before .args .schedule .now in
+    let at-end : upToEnd (length b) b ≡ length b = rw (le-leb (length b) (length b) (omega arith)) in
+    rw (eq-eqb _ _ (c .before .if1 .taken)) (rw at-end at (c .part-from .ensures))
+
+before-events-requires : tie.Need-before-events-requires
+before-events-requires c κs = search needs
 
 part-from-requires-2 : tie.Need-part-from-requires-2
 part-from-requires-2 c κs = search needs
 
 returns-2 : tie.Need-returns-2
-unfolding unread
+unfolding unreadFrom
 returns-2 c =
-    rw (ne-eqb _ _ (c .before .before .before .if1 .left), le-leb _ _ (c .before .if2 .taken)) (c .part-from2 .ensures)
+    let stop = c .before .before in
+    let b = stop .before .before .before .before .args .schedule .now in
+    let low = sym (stop .before-events .ensures) ∙ c .before .if2 .taken in
+    let at-start : upToEnd 0 b ≡ 0 = rw (le-leb 0 (length b) (omega arith)) in
+    rw (ne-eqb _ _ (stop .before .if1 .left), low) (rw at-start at (c .part-from2 .ensures))
 
 cast-taken : tie.Need-cast-taken
 cast-taken c = search needs
@@ -46,10 +56,11 @@ part-from-requires-3 : tie.Need-part-from-requires-3
 part-from-requires-3 c κs = search needs
 
 returns-3 : tie.Need-returns-3
-unfolding unread
+unfolding unreadFrom
 returns-3 c =
-    let high = c .before .before .before in
-    rw (ne-eqb _ _ (high .before .before .if1 .left), lt-leb _ _ (high .if2 .left)) (c .part-from3 .ensures)
+    let stop = c .before .before .before .before in
+    let high = sym (stop .before-events .ensures) ∙ c .before .before .before .if2 .left in
+    rw (ne-eqb _ _ (stop .before .if1 .left), high) (c .part-from3 .ensures)
 
 pub unread-spec : {M : Type 1} → statement M
 unread-spec =
@@ -57,6 +68,7 @@ unread-spec =
     (tie.spec
     part-from-requires
     returns
+    before-events-requires
     part-from-requires-2
     returns-2
     cast-taken

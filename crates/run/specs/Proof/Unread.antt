@@ -9,7 +9,7 @@ use native.Mathlib.Omega.{arith}
 use lib.Dec.{eqb, leb}
 use lib.ListN.{drop, drop-of-length-le, length, length-append}
 use lib.Seq.{drop-at, drop-length}
-use borrow.Author.Tests.{eq-eqb, le-leb, lt-leb, ne-eqb}
+use borrow.Author.Tests.{eq-eqb, le-leb, leb-false, leb-true, lt-leb, ne-eqb}
 use Rattle.events.specs.Row.{goesOn, rowAnswers, rowEnd, stopping}
 use Rattle.events.specs.Proof.Answers.{stop-not-done}
 use Rattle.events.specs.Theorems.{row-length-all, row-stop, stopping-append}
@@ -25,36 +25,53 @@ use Rattle.step.specs.Step.{step}
 use Rattle.run.specs.Conditions.{Accepted}
 use Rattle.run.specs.Proof.Refused.{refusal-at-most}
 use Rattle.run.specs.Proof.Runs.{answered, answers-by-step, refused, run-stops, stop-of, taken-all}
-use Rattle.run.specs.Run.{answersOf, refusal, reported, run, taken, unread}
+use Rattle.run.specs.Run.{answersOf, beforeEvents, refusal, reported, run, taken, unread, unreadFrom, upToEnd}
 use Rattle.run.specs.declared.Ran.{Ran}
 use Rattle.run.specs.declared.Report.{Report}
+
+-- ---- a place, or the end
+
+-- Past a place that lies past the end there is what is past the end: nothing.
+to-end : (place : ℕ) (b : List ℕ) → drop (upToEnd place b) b ≡ drop place b
+to-end place b = go (leb place (length b)) refl
+  where
+    go : (t : Bool) → leb place (length b) ≡ t → drop (cond t place (length b)) b ≡ drop place b
+    go true e = refl
+    go false e = drop-length b ∙ sym (drop-of-length-le b {i = place} (omega (arith, leb-false place (length b) e)))
+
+within : (place : ℕ) (b : List ℕ) → upToEnd place b ≤ length b
+within place b = go (leb place (length b)) refl
+  where
+    go : (t : Bool) → leb place (length b) ≡ t → cond t place (length b) ≤ length b
+    go true e = leb-true place (length b) e
+    go false e = omega arith
 
 -- ---- of any report
 module _ (b : List ℕ) (r : Report) where
   pub nothing : r .stop ≡ done → unread b r ≡ []
-  unfolding unread
-  nothing e = rw (eq-eqb _ _ e)
+  unfolding unreadFrom
+  nothing e = rw (eq-eqb _ _ e) (drop-length b)
 
   pub whole : Between badState (r .stop) tooShort → unread b r ≡ b
-  unfolding unread
+  unfolding unreadFrom
   whole low = rw (ne-eqb (r .stop) done (λ z. omega (arith, low .from)), le-leb _ _ (low .to))
 
   pub behind : tooShort < r .stop → unread b r ≡ drop (startOf (taken r)) b
-  unfolding unread
-  behind high = rw (ne-eqb (r .stop) done (λ z. omega arith), lt-leb _ _ high)
+  unfolding unreadFrom
+  behind high = rw (ne-eqb (r .stop) done (λ z. omega arith), lt-leb _ _ high) (to-end (startOf (taken r)) b)
 
   pub past-the-end : tooShort < r .stop → length b ≤ startOf (taken r) → unread b r ≡ []
   past-the-end high h = behind high ∙ drop-of-length-le b h
 
-  -- whichever of its two tests holds, it is what follows some number of bytes
-  part-by : (t t′ : Bool) → (k : ℕ) × (cond t [] (cond t′ b (drop (startOf (taken r)) b)) ≡ drop k b)
-  part-by true t′ = (length b, sym (drop-length b))
-  part-by false true = (0, refl)
-  part-by false false = (startOf (taken r), refl)
+  -- whichever of its two tests holds, it begins in the schedule or at its end
+  part-by : (t t′ : Bool) → cond t (length b) (cond t′ 0 (upToEnd (startOf (taken r)) b)) ≤ length b
+  part-by true t′ = omega arith
+  part-by false true = omega arith
+  part-by false false = within (startOf (taken r)) b
 
-  pub part : (k : ℕ) × (unread b r ≡ drop k b)
-  unfolding unread
-  part = part-by (eqb (r .stop) done) (leb (r .stop) tooShort)
+  pub part : unreadFrom b r ≤ length b
+  unfolding unreadFrom
+  part = part-by (eqb (r .stop) done) (beforeEvents (r .stop))
 
 -- ---- of the run's own
 module _ (s : State) (b out : List ℕ) where
