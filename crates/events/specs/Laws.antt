@@ -1,25 +1,25 @@
 -- The laws of a loop that takes a row of events one at a time, over any tool. The loop's invariant is `SoFar`: it holds at the start (`start`), an event
--- that goes on keeps it (`goes-on`, or by kind `executed-on` and `waited-on`), and from it the row is over where an event stops (`stops-here`) and where
+-- that goes on keeps it (`goes-on`), and from it the row is over where an event stops (`stops-here`) and where
 -- no event is left (`at-the-end`). A loop that stores the answers in a buffer has `take i row ++ drop i buffer` there besides (`stored`, `stored-length`,
 -- `stored-all`). Rests on Answers. Assumes nothing.
 use mathlib.Core.Bool.{Bool, cond, false, true}
 use mathlib.Core.List.{List, [], _∷_, _++_}
 use mathlib.Core.Path.{_≡_, ap, refl, sym, _∙_}
-use Prim.Native.Nat.{ℕ, suc, _+_, _≤_, _<_}
+use Prim.Native.Nat.{ℕ, _+_, _≤_, _<_}
 use native.Mathlib.Numerals.{add-one}
 use native.Mathlib.Omega.{arith}
-use lib.ListN.{drop, getD, length, length-drop, set, take, take-append-drop}
-use lib.Seq.{append-snoc, drop-cons, drop-length, length-front, length-take-le, set-at, take-length, take-suc}
+use lib.ListN.{drop, getD, length, length-drop, set, take}
+use lib.Seq.{drop-cons, drop-length, length-front, length-take-le, take-length, take-suc}
 use Rattle.lock.specs.declared.State.{State}
 use Rattle.number.specs.Refused.{done}
 use Rattle.number.specs.Tests.{neither-holds}
+use Rattle.rows.specs.Rows.{over}
+use Rattle.rows.specs.Stored.{set-behind}
 use Rattle.step.specs.Demands.{Tool}
 use Rattle.step.specs.declared.Stepped.{Stepped}
-use Rattle.events.specs.Proof.Answers.{on-counts, stopping-append, wait-goes-on}
+use Rattle.events.specs.Proof.Answers.{count-more, on-counts, stopping-append}
 use Rattle.events.specs.Row.{executed, executes, goesOn, howManyOf, rowAnswers, rowEnd, stopping, waited, waits}
 use Rattle.events.specs.declared.Event.{Event}
--- how many there are of a kind among the first i + 1 answers, from how many there are among the first i
-pub use Rattle.events.specs.Proof.Answers.{count-more}
 
 -- ---- a list that has a at place i, and then the rest
 module _ {A : Type 0} (l : List A) (i : ℕ) (a : A) (rest : List A) (from : drop i l ≡ a ∷ rest) where
@@ -67,9 +67,9 @@ module _ (tool : Tool) (s₀ : State) (es : List Event) where
     pub stopping : m ≡ stopping row
 
   -- what is so of the answers to the first n events is so of the row, if there are no others
-  over : {n : ℕ} {s : State} {x w m : ℕ} → n ≡ length row → s ≡ rowEnd tool s₀ es
+  row-over : {n : ℕ} {s : State} {x w m : ℕ} → n ≡ length row → s ≡ rowEnd tool s₀ es
       → x ≡ executed (take n row) → w ≡ waited (take n row) → m ≡ stopping (take n row) → Over n s x w m
-  over {n} taken end x-so w-so m-so =
+  row-over {n} taken end x-so w-so m-so =
       let all : take n row ≡ row = ap (λ (k : ℕ). take k row) taken ∙ take-length row in
       record { taken = taken; end = end; executed = x-so ∙ ap executed all; waited = w-so ∙ ap waited all; stopping = m-so ∙ ap stopping all }
 
@@ -90,10 +90,6 @@ module _ (tool : Tool) (s₀ : State) (es : List Event) where
   -- the event at place i
   pub next-at : (i : ℕ) (s : State) (r : Stepped) (d : Event) → i < length es → r ≡ tool s (getD es i d .thread) (getD es i d .node) → Next i s r
   next-at i s r d h gives = record { event = getD es i d; there = rw (add-one i) (drop-cons es i d h); gives = gives }
-
-  -- ---- the whole row, as it stands after i events
-  pub whole : {i : ℕ} {s : State} {x w : ℕ} → SoFar i s x w → row ≡ take i row ++ rowAnswers tool s (drop i es)
-  whole {i} {s} f = sym (take-append-drop i row) ∙ ap (λ (l : List ℕ). take i row ++ l) (f .left)
 
   -- the answers so far, stored in a buffer that has a place for each, leave it as long as it was
   pub stored-length : {i : ℕ} {s : State} {x w : ℕ} → SoFar i s x w → (buffer : List ℕ) → i ≤ length buffer
@@ -134,7 +130,7 @@ module _ (tool : Tool) (s₀ : State) (es : List Event) where
     unfolding stopping
     stop = rw one-more (stopping-append (take i row) (a ∷ []) (f .going))
 
-    -- it goes on ..
+    -- it goes on
     pub goes-on : goesOn a ≡ true → SoFar (i + 1) (r .state) (x + cond (executes a) 1 0) (w + cond (waits a) 1 0)
     goes-on h = record {
       within = omega (arith, inside es i (next .event) later (next .there));
@@ -147,26 +143,12 @@ module _ (tool : Tool) (s₀ : State) (es : List Event) where
       going = stop ∙ rw h;
     }
 
-    -- .. by kind: executed,
-    pub executed-on : executes a ≡ true → SoFar (i + 1) (r .state) (x + 1) w
-    executed-on h =
-        let on : goesOn a ≡ true = rw h in
-        let no-wait : w + cond (waits a) 1 0 ≡ w = omega (arith, rw h at (on-counts a on)) in
-        rw (h, no-wait) at (goes-on on)
-
-    -- or waited
-    pub waited-on : waits a ≡ true → SoFar (i + 1) (r .state) x (w + 1)
-    waited-on h =
-        let on : goesOn a ≡ true = wait-goes-on a h in
-        let not-executed : x + cond (executes a) 1 0 ≡ x = omega (arith, rw h at (on-counts a on)) in
-        rw (h, not-executed) at (goes-on on)
-
     -- it stops
     pub stops-here : goesOn a ≡ false → Over (i + 1) (r .state) x w a
     stops-here h =
         let nothing : drop i row ≡ a ∷ [] = from ∙ rw h in
         let neither = neither-holds (executes a) (waits a) h in
-        over (omega (arith, length-drop i row, ap length nothing, in-row))
+        row-over (omega (arith, length-drop i row, ap length nothing, in-row))
         (sym (ends ∙ rw h))
         (omega (arith, f .executed, rw (neither .0) at (tallied executes)))
         (omega (arith, f .waited, rw (neither .1) at (tallied waits)))
@@ -174,10 +156,7 @@ module _ (tool : Tool) (s₀ : State) (es : List Event) where
 
     -- the answer is stored at its place, whether it goes on or stops
     pub stored : (buffer : List ℕ) → i < length buffer → set (take i row ++ drop i buffer) i a ≡ take (i + 1) row ++ drop (i + 1) buffer
-    stored buffer h =
-        let kept : List ℕ = drop (suc i) buffer in
-        rw (one-more, add-one i, drop-cons buffer i 0 h)
-        (set-at (take i row) (getD buffer i 0) kept a i (length-take-le i row (f .answered)) ∙ sym (append-snoc (take i row) a kept))
+    stored buffer h = rw one-more (set-behind (take i row) buffer i a 0 (length-take-le i row (f .answered)) h)
 
   -- ---- behind the last event
   pub at-the-end : {i : ℕ} {s : State} {x w : ℕ} → SoFar i s x w → i ≡ length es → Over i s x w done
@@ -185,12 +164,12 @@ module _ (tool : Tool) (s₀ : State) (es : List Event) where
   at-the-end {i} {s} f e =
       let nothing : drop i es ≡ [] = ap (λ (k : ℕ). drop k es) e ∙ drop-length es in
       let left : drop i row ≡ [] = f .left ∙ ap (rowAnswers tool s) nothing in
-      over (omega (arith, length-drop i row, ap length left, f .answered))
+      row-over (omega (arith, length-drop i row, ap length left, f .answered))
       (sym (f .end ∙ ap (rowEnd tool s) nothing))
       (f .executed)
       (f .waited)
       (sym (f .going))
 
   -- all the answers stored
-  pub stored-all : {n : ℕ} {s : State} {x w m : ℕ} → Over n s x w m → (buffer : List ℕ) → take n row ++ drop n buffer ≡ row ++ drop (length row) buffer
+  pub stored-all : {n : ℕ} {s : State} {x w m : ℕ} → Over n s x w m → (buffer : List ℕ) → take n row ++ drop n buffer ≡ over row buffer
   stored-all o buffer = rw (o .taken, take-length row)

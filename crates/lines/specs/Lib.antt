@@ -1,2 +1,3 @@
 -- The table of the nineteen lines, and the window that a line works on.
 pub mod Lines
+pub mod ByRow

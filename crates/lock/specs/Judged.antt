@@ -1,18 +1,18 @@
 -- The test of a state and the rule that a state is held to agree: `valid-rule` and `rule-valid`. `x-rule` leads from a test to the rule, `rule-x` back.
 -- Each part of the test is a list of tests, and each of these stands for one fact of the rule. Of a table one law each way, for any element, turns the
 -- test of all its places into facts about its numbers. Rests on Tests (crate `number`) and on the laws of the word. Assumes nothing.
-use mathlib.Core.Bool.{Bool, false, not, true, true≢false, _&&_, _||_}
+use mathlib.Core.Bool.{Bool, false, not, true, _&&_, _||_}
 use mathlib.Core.List.{List, [], _∷_}
 use mathlib.Core.Logic.{_≢_}
-use mathlib.Core.Path.{_≡_, ap, refl, sym, _∙_}
+use mathlib.Core.Path.{_≡_, ap, refl}
 use Prim.Native.Nat.{ℕ, zero, suc, _≤_, _<_}
 use native.Mathlib.Nat.{le-of-suc-le-suc}
 use native.Mathlib.Omega.{arith}
 use lib.Dec.{eqb, leb, ltb}
 use lib.ListN.{getD, length}
-use borrow.Author.Tests.{eqb-false, eqb-true, le-leb, leb-true, ltb-false, ltb-true, not-false, not-true}
+use borrow.Author.Tests.{eqb-false, eqb-true, le-leb, leb-true, ltb-false, ltb-true}
 use Rattle.number.specs.First.{_given-when_}
-use Rattle.number.specs.FirstThat.{Reflects}
+use Rattle.number.specs.FirstThat.{Reflects, judges-rule}
 use Rattle.number.specs.Numbers.{node, place, thread}
 use Rattle.number.specs.Refused.{_if_, badState}
 use Rattle.number.specs.Sizes.{mostNodes, mostThreads}
@@ -173,16 +173,28 @@ threads-agree nodes =
 
 -- ---- the state
 
+-- the three parts of the test of a state
+pub record Passed (s : State) : Type 0 where
+  pub shared : sharedValid (s .shared) ≡ true
+  pub nodes : nodesValid (s .shared .nodes) (s .node) ≡ true
+  pub threads : threadsValid (s .shared .nodes) (s .shared .threads) (s .thread) ≡ true
+
+pub passed : (s : State) → valid s ≡ true → Passed s
+unfolding valid
+passed s h =
+    let before = sharedValid (s .shared) && nodesValid (s .shared .nodes) (s .node) in
+    let front = first-holds before _ h in
+    record { shared = first-holds _ _ front; nodes = second-holds (sharedValid (s .shared)) _ front; threads = second-holds before _ h }
+
 -- A state that passes the test is as the rule says.
 pub valid-rule : (s : State) → Sized s → valid s ≡ true → Valid s
-unfolding valid nodesValid threadsValid
+unfolding nodesValid threadsValid
 valid-rule s sized h =
     let K = s .shared .nodes in
-    let before = sharedValid (s .shared) && nodesValid K (s .node) in
-    let front = first-holds before _ h in
-    let shared = shared-rule (s .shared) (first-holds (sharedValid (s .shared)) _ front) in
-    let nodes = table-rule (nodes-agree K) K (s .node) (omega arith) (second-holds (sharedValid (s .shared)) _ front) in
-    let threads = table-rule (threads-agree K) (s .shared .threads) (s .thread) (omega arith) (second-holds before _ h) in
+    let p = passed s h in
+    let shared = shared-rule (s .shared) (p .shared) in
+    let nodes = table-rule (nodes-agree K) K (s .node) (omega arith) (p .nodes) in
+    let threads = table-rule (threads-agree K) (s .shared .threads) (s .thread) (omega arith) (p .threads) in
     record {
       shared = shared;
       node = λ k l m. nodes .within (k .0) l m;
@@ -209,10 +221,7 @@ rule-valid s v =
 
 -- Refusal 1 of a state that is not in bytes: its test says that the state breaks the rule.
 pub judges-state : (s : State) → Sized s → Reflects (badState if not (valid s)) (badState given-when (¬ Valid s))
-judges-state s sized = record {
-  holds = λ e. ((λ rule. true≢false (sym (rule-valid s rule) ∙ not-true _ e)), refl);
-  fails = λ e broken. broken (valid-rule s sized (not-false _ e));
-}
+judges-state s sized = judges-rule badState (valid-rule s sized, rule-valid s)
 
 -- A thread or node number k that passes the test of n is 1 to n.
 pub in-table : (k n : ℕ) → (eqb k 0 || ltb n k) ≡ false → Between 1 k n

@@ -1,13 +1,13 @@
 -- The first that applies, by tests and by conditions: where each test says what its condition says, as long as no test before it holds, the number
 -- that the tests give is that of the first condition that applies, and no other number is. Assumes nothing.
-use mathlib.Core.Bool.{Bool, cond, false, true, true≢false}
+use mathlib.Core.Bool.{Bool, cond, false, not, true, true≢false}
 use mathlib.Core.List.{List, [], _∷_, _++_}
 use mathlib.Core.Logic.{_↔_, inl, inr, ⊎-elim}
 use mathlib.Core.Path.{_≡_, refl, subst, sym, _∙_}
 use Prim.Native.Nat.{ℕ, _≤_, _<_}
 use native.Mathlib.Omega.{arith}
 use lib.Dec.{ltb}
-use borrow.Author.Tests.{ltb-false, ltb-true}
+use borrow.Author.Tests.{ltb-false, ltb-true, not-false, not-true}
 use Rattle.number.specs.First.{Condition, First, NoneApply, _given-when_}
 use Rattle.number.specs.Refused.{Refusal, _if_, done, firstOf, tooShort}
 
@@ -126,6 +126,13 @@ pub judges-short : (room needed : ℕ) → Reflects (tooShort if ltb room needed
 judges-short room needed = record {
   holds = λ e. (ltb-true room needed e, refl);
   fails = λ e short. omega (arith, ltb-false room needed e);
+}
+
+-- The refusal of what breaks a rule, where the test says exactly that the rule holds.
+pub judges-rule : (number : ℕ) {test : Bool} {Rule : Type 0} → (test ≡ true) ↔ Rule → Reflects (number if not test) (number given-when (¬ Rule))
+judges-rule number {test} exactly = record {
+  holds = λ e. ((λ rule. true≢false (sym (exactly .1 rule) ∙ not-true test e)), refl);
+  fails = λ e broken. broken (exactly .0 (not-false test e));
 }
 
 -- ---- what a call's number says, where its tests say what its conditions say

@@ -8,9 +8,9 @@ use native.Mathlib.Nat.{le-of-lt, mul-suc, mul-zero}
 use native.Mathlib.Numerals.{add-one}
 use native.Mathlib.Omega.{arith}
 use lib.ListN.{drop, getD, length, length-append, set, take}
-use lib.Seq.{append-snoc, drop-cons, drop-drop, length-take-le, set-at, sets, take-suc}
+use lib.Seq.{drop-drop, length-take-le, sets, take-suc}
 use Rattle.rows.specs.Rows.{Kind, Lawful, allGood, good, laid, values}
-use Rattle.rows.specs.Stored.{sets-append}
+use Rattle.rows.specs.Stored.{set-behind, sets-append}
 
 module _ {A : Type 0} (kind : Kind A) where
   -- past one record and then past n more is past n + 1
@@ -32,12 +32,11 @@ module _ {A : Type 0} (kind : Kind A) where
   values-more (suc n) b = ap (λ (l : List A). kind .value b ∷ l) (values-more n (drop (kind .width) b) ∙ rw (past-more n b))
 
   -- A turn of the loop that reads records into a table.
-  pub fill-more : (n : ℕ) (b : List ℕ) (xs : List A) (d : A) → n < length xs
+  pub read-more : (n : ℕ) (b : List ℕ) (xs : List A) (d : A) → n < length xs
       → set (values kind n b ++ drop n xs) n (kind .value (drop (kind .width * n) b)) ≡ values kind (n + 1) b ++ drop (n + 1) xs
-  fill-more n b xs d h =
-      let v : A = kind .value (drop (kind .width * n) b) in
-      rw (add-one n, drop-cons xs n d h, set-at (values kind n b) (getD xs n d) (drop (suc n) xs) v n (length-values n b), values-more n b)
-      (sym (append-snoc (values kind n b) v (drop (suc n) xs)))
+  read-more n b xs d h =
+      set-behind (values kind n b) xs n (kind .value (drop (kind .width * n) b)) d (length-values n b) h
+      ∙ rw (add-one n, values-more n b)
 
   -- ---- judging
 
@@ -59,8 +58,8 @@ module _ {A : Type 0} (kind : Kind A) where
         ∙ omega (arith, lawful .wide x, length-laid xs, mul-suc (kind .width) (length xs))
 
     -- the bytes of the first n of a table's values
-    pub length-front : (n : ℕ) (xs : List A) → n ≤ length xs → length (laid kind (take n xs)) ≡ kind .width * n
-    length-front n xs h = length-laid (take n xs) ∙ rw (length-take-le n xs h)
+    pub length-laid-front : (n : ℕ) (xs : List A) → n ≤ length xs → length (laid kind (take n xs)) ≡ kind .width * n
+    length-laid-front n xs h = length-laid (take n xs) ∙ rw (length-take-le n xs h)
 
   pub laid-append : (xs ys : List A) → laid kind (xs ++ ys) ≡ laid kind xs ++ laid kind ys
   unfolding laid
@@ -73,6 +72,6 @@ module _ {A : Type 0} (kind : Kind A) where
   unfolding laid
   put-more lawful o at i xs d h =
       let x : A = getD xs i d in
-      let l : length (laid kind (take i xs)) ≡ kind .width * i = length-front lawful i xs (le-of-lt h) in
+      let l : length (laid kind (take i xs)) ≡ kind .width * i = length-laid-front lawful i xs (le-of-lt h) in
       rw (add-one i, take-suc xs i d h, laid-append (take i xs) (x ∷ []), append-nil (kind .bytes x))
       (sym (rw l at (sets-append o at (laid kind (take i xs)) (kind .bytes x))))

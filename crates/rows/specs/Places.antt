@@ -8,10 +8,10 @@ use native.Mathlib.Nat.{add-zero, le-of-suc-le-suc, mul-zero}
 use native.Mathlib.Omega.{arith}
 use lib.Dec.{eqb}
 use lib.ListN.{drop, getD, length, take, take-append-drop}
-use lib.Seq.{drop-at, getD-drop}
+use lib.Seq.{drop-at, drop-drop, getD-drop}
 use borrow.Author.Tests.{eq-eqb, eqb-true}
 use Rattle.number.specs.Tests.{both-hold, first-holds, second-holds}
-use Rattle.rows.specs.Loops.{laid-append, length-front, past-more}
+use Rattle.rows.specs.Loops.{laid-append, length-laid-front, past-more}
 use Rattle.rows.specs.Rows.{Kind, Lawful, MarkAt, allGood, good, laid, marked, values}
 
 -- ---- a mark
@@ -60,4 +60,25 @@ module _ {A : Type 0} (kind : Kind A) where
   laid-past lawful i xs h =
       ap (λ ys. drop (kind .width * i) (laid kind ys)) (sym (take-append-drop i xs))
       ∙ rw (laid-append kind (take i xs) (drop i xs))
-      (drop-at (laid kind (take i xs)) (laid kind (drop i xs)) (kind .width * i) (length-front kind lawful i xs h))
+      (drop-at (laid kind (take i xs)) (laid kind (drop i xs)) (kind .width * i) (length-laid-front kind lawful i xs h))
+
+-- ---- all records of a kind, from a place of b on
+module _ {A : Type 0} (kind : Kind A) (from n : ℕ) (b : List ℕ) where
+  -- what lies from record i on
+  abbrev here : ℕ → List ℕ
+  here i = drop (from + kind .width * i) b
+
+  -- where all are good, each is: it has its mark, and it is in range
+  each-good : allGood kind n (drop from b) ≡ true → (i : ℕ) → i < n → good kind (here i) ≡ true
+  each-good h i l = rw (drop-drop (kind .width * i) from b) at (good-at kind n i (drop from b) h l)
+
+  pub each-marked : allGood kind n (drop from b) ≡ true → (i : ℕ) → i < n → marked (kind .mark₁) (kind .mark₂) (here i) ≡ true
+  each-marked h i l = first-holds _ _ (each-good h i l)
+
+  pub each-in : allGood kind n (drop from b) ≡ true → (i : ℕ) → i < n → kind .inRange (kind .value (here i)) ≡ true
+  each-in h i l = second-holds (marked (kind .mark₁) (kind .mark₂) (here i)) _ (each-good h i l)
+
+  -- and back
+  pub all-good : ((i : ℕ) → i < n → marked (kind .mark₁) (kind .mark₂) (here i) ≡ true) → ((i : ℕ) → i < n → kind .inRange (kind .value (here i)) ≡ true)
+      → allGood kind n (drop from b) ≡ true
+  all-good mark range = at-good kind n (drop from b) (λ i l. rw (drop-drop (kind .width * i) from b) (both-hold (mark i l) (range i l)))

@@ -8,6 +8,7 @@ use native.Mathlib.Omega.{arith}
 use lib.ListN.{drop, getD, length, length-drop, take}
 use lib.Seq.{drop-at, drop-cons, getD-drop, take-add}
 use Rattle.number.specs.Tests.{both-hold, first-holds, second-holds}
+use Rattle.rows.specs.Places.{mark-rule}
 use Rattle.rows.specs.Rows.{Bytes, Kind, Lawful, allGood, allIn, good, laid, marked, values}
 
 -- ---- the bytes of r from a place on, one by one, as a record reads and writes them
@@ -22,6 +23,10 @@ listed-part (suc n) i r h = rw (drop-cons r i 0 (omega arith), listed-part n (su
 -- The first n bytes, one by one, are the first n bytes.
 pub listed-front : (n : ℕ) (r : List ℕ) → n ≤ length r → listed n 0 r ≡ take n r
 listed-front n r h = listed-part n 0 r (omega arith)
+
+-- Behind a mark they are the mark and the bytes from the third on.
+pub begun : (first second : ℕ) (r : List ℕ) → marked first second r ≡ true → first ∷ second ∷ [] ≡ listed 2 0 r
+begun first second r h = let m = mark-rule r 0 first second h in rw (m .0, m .1)
 
 -- ---- records
 

@@ -1,13 +1,13 @@
 -- Laws of stores: bytes that are stored one after the other, from the list library's `sets` (a list of values stored from a place on).
 -- By induction over what is stored. Assumes nothing.
-use mathlib.Core.List.{List, [], _∷_, _++_}
-use mathlib.Core.Path.{_≡_, ap, _∙_}
-use Prim.Native.Nat.{ℕ, suc, _+_, _≤_, _<_}
+use mathlib.Core.List.{List, [], _∷_, _++_, append-nil}
+use mathlib.Core.Path.{_≡_, ap, sym, _∙_}
+use Prim.Native.Nat.{ℕ, suc, _+_, _-_, _≤_, _<_}
 use native.Mathlib.Nat.{le-of-lt, zero-add}
 use native.Mathlib.Numerals.{add-one}
 use native.Mathlib.Omega.{arith}
-use lib.ListN.{getD, length, set, take}
-use lib.Seq.{length-take-le, sets, sets-eq, take-suc}
+use lib.ListN.{List·getD-append, drop, drop-of-length-le, getD, length, set, take}
+use lib.Seq.{append-snoc, drop-cons, getD-append-add, getD-drop, length-take-le, set-at, sets, sets-eq, take-suc}
 use Rattle.rows.specs.Rows.{over}
 
 -- Storing p and then q behind it is storing both.
@@ -27,3 +27,25 @@ pub byte-more : (o : List ℕ) (at i : ℕ) (r : List ℕ) → i < length r → 
 byte-more o at i r h =
     let l : length (take i r) ≡ i = length-take-le i r (le-of-lt h) in
     rw (add-one i, take-suc r i 0 h, sets-append o at (take i r) (getD r i 0 ∷ []), l)
+
+-- ---- vs over o
+module _ (vs o : List ℕ) where
+  -- Byte i is that of vs as far as vs goes ..
+  pub over-at : (i : ℕ) → i < length vs → getD (over vs o) i 0 ≡ getD vs i 0
+  over-at i l = List·getD-append vs (drop (length vs) o) 0 i l
+
+  -- .. and from there on that of o.
+  pub over-later : (i : ℕ) → length vs ≤ i → getD (over vs o) i 0 ≡ getD o i 0
+  over-later i l =
+      let far : length vs + (i - length vs) ≡ i = omega arith in
+      rw far at (getD-append-add vs (drop (length vs) o) (i - length vs) 0 ∙ getD-drop (length vs) o (i - length vs) 0)
+
+  -- Over no more bytes than its own it is all there is.
+  pub over-all : length o ≤ length vs → over vs o ≡ vs
+  over-all l = rw (drop-of-length-le o l) (append-nil vs)
+
+-- A turn of a loop that fills a table from the front: the first n places hold p, and the next takes v.
+pub set-behind : {A : Type 0} (p xs : List A) (n : ℕ) (v d : A) → length p ≡ n → n < length xs
+    → set (p ++ drop n xs) n v ≡ (p ++ v ∷ []) ++ drop (n + 1) xs
+set-behind p xs n v d l h =
+    rw (add-one n, drop-cons xs n d h, set-at p (getD xs n d) (drop (suc n) xs) v n l) (sym (append-snoc p v (drop (suc n) xs)))

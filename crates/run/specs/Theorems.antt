@@ -41,7 +41,7 @@ module _ (s : State) (b : List ℕ) (room : ℕ) (sized : Sized s) where
   -- .. each number exactly when its condition applies and none before it does ..
   pub given-exactly : (before : List Condition) (c : Condition) (later : List Condition) → conditions s b room ≡ before ++ c ∷ later
       → (refusal s b room ≡ c .number) ↔ (NoneApply before × c .applies)
-  given-exactly = Refused.this-exactly s b room sized
+  given-exactly = Refused.given-exactly s b room sized
 
   -- .. and 0 exactly when the state and the schedule obey their rules, have the same T and K, and there is a byte for each event.
   pub accepted-exactly : (refusal s b room ≡ done) ↔ Accepted s b room

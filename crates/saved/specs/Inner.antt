@@ -5,13 +5,13 @@ use lib.ListN.{drop, length}
 use Rattle.lock.specs.declared.State.{State}
 use Rattle.number.specs.Sizes.{mostNodes, mostThreads}
 use Rattle.rows.specs.Rows.{values}
-use Rattle.saved.specs.Saved.{nodeRecord, size, threadRecord}
+use Rattle.saved.specs.Saved.{nodeRecord, sizeOf, threadRecord}
 
 -- There is room for the bytes of s at the start of out, and the tables of s have the nodes and the threads that it says it has.
 pub record Room (s : State) (out : List ℕ) : Type 0 where
   pub nodes : s .shared .nodes ≤ mostNodes
   pub threads : s .shared .threads ≤ mostThreads
-  pub long : size (s .shared .nodes) (s .shared .threads) ≤ length out
+  pub long : sizeOf s ≤ length out
 
 -- s with what the first n records of b say in place of its first n nodes
 abbrev pub withNodes : State → ℕ → List ℕ → State

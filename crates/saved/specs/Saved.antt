@@ -127,7 +127,7 @@ threadsPlace K = headerWidth + nodeWidth * K
 
 -- "Length is exactly 23 + 4K + 11T"
 abbrev pub size : ℕ → ℕ → ℕ
-size K T = headerWidth + nodeWidth * K + threadWidth * T
+size T K = headerWidth + nodeWidth * K + threadWidth * T
 
 -- ---- the rule: "Flag and locked are 0 or 1. Tail, next, my, prev, succ, nxmy and mess are 0 to K. Bits of the word from K up are 0. Low and high are
 -- 1 to 1,000,001, entered and slot at most 1,000,000, lines 11 to 29." These are SharedRange, NodeRange and ThreadRange of lock/specs/Valid. "Any
@@ -141,7 +141,7 @@ module _ (b : List ℕ) where
 
   pub record SavedFile : Type 0 where
     -- "Length is exactly 23 + 4K + 11T"
-    pub exact : length b ≡ size K T
+    pub exact : length b ≡ size T K
     -- the header
     pub header-mark : MarkAt b 0 letterL letterH
     pub shared : SharedRange (headerIn b)
@@ -158,7 +158,7 @@ abbrev pub goodTests : Shared → List ℕ → List Bool
 goodTests sh b =
     let K = sh .nodes in
     let T = sh .threads in
-    eqb (length b) (size K T)
+    eqb (length b) (size T K)
     ∷ marked letterL letterH b
     ∷ sharedValid sh
     ∷ allGood (nodeRecord K) K (drop headerWidth b)
@@ -199,7 +199,7 @@ read b = cond (savedGood b) (opened done (stateIn b)) (opened badState zeroState
 
 -- how many bytes the saved state of s has
 abbrev pub sizeOf : State → ℕ
-sizeOf s = size (s .shared .nodes) (s .shared .threads)
+sizeOf s = size (s .shared .threads) (s .shared .nodes)
 
 -- 1, "A state that is not in bytes is held to the same ranges ..; otherwise it gives 1"; then 4, "a lent output is too short"
 abbrev pub saveConditions : State → List ℕ → List Condition

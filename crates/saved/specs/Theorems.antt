@@ -20,7 +20,7 @@ use Rattle.saved.specs.Proof.ReadSave
 use Rattle.saved.specs.Proof.Save
 use Rattle.saved.specs.Proof.SaveRead
 use Rattle.saved.specs.Proof.Size
-use Rattle.saved.specs.Saved.{SavedFile, bytesOf, headerIn, read, saveConditions, saveNumber, savedOver, size, sizeOf, stateBy}
+use Rattle.saved.specs.Saved.{SavedFile, bytesOf, headerIn, read, saveConditions, saveNumber, savedOver, sizeOf, stateBy}
 
 -- ---- reading
 
@@ -35,7 +35,7 @@ read-valid b h =
     rw (Read.good-read b good) (SaveRead.state-valid (headerIn b) b good)
 
 -- A file that is read has exactly as many bytes as the T and K of its state ask for.
-pub read-size : (b : List ℕ) → read b .number ≡ done → length b ≡ size (read b .state .shared .nodes) (read b .state .shared .threads)
+pub read-size : (b : List ℕ) → read b .number ≡ done → length b ≡ sizeOf (read b .state)
 unfolding stateBy
 read-size b h =
     let good = Read.done-good b h in

@@ -1,7 +1,7 @@
 // Saved states: `read` and `save`. A saved state is a header, a record for each node and a record for each thread, one after the
 // other. Readers work on the record at the start of a slice, and encoders give an array, so that neither knows a place: `rest` gives
-// the part of a slice from a place on, and `put` is the one loop that stores bytes. Crates above use these, and `good` and
-// `put_state`, to work on a saved state where it stands. Rests on `number`, `lock` and `rows`.
+// the part of a slice from a place on, and `put` is the one loop that stores bytes. `put_state` also serves the step over a saved state
+// that is lent. Rests on `number`, `lock` and `rows`.
 ghost use Prim.Native.Nat.{_*_, _+_, _-_, _<_, _≤_};
 ghost use mathlib.Core.Bool.{true};
 ghost use mathlib.Core.Path.{_≡_};
@@ -12,7 +12,7 @@ ghost use Rattle.rows.specs.Rows.{allGood, good as goodRecord, marked as marked
 ghost use Rattle.saved.specs.Inner.{Room, withNodes, withThreads};
 ghost use Rattle.saved.specs.Saved.{letterL, bytesOf, fourAt, fourBytes, headerBytes, headerIn, headerWidth, nodeBytes, nodeIn};
 ghost use Rattle.saved.specs.Saved.{nodeRecord, nodeWidth, nodesBytes, read as readOf, saveNumber, savedGood, savedOver};
-ghost use Rattle.saved.specs.Saved.{size as sizeOf, stateIn, threadBytes, threadIn, threadRecord, threadWidth, threadsBytes};
+ghost use Rattle.saved.specs.Saved.{size as sizeFor, stateIn, threadBytes, threadIn, threadRecord, threadWidth, threadsBytes};
 ghost use Rattle.saved.specs.Saved.{threadsPlace};
 use lock::Node;
 use lock::Opened;
@@ -42,8 +42,8 @@ fn threads_place(nodes: u8) -> usize
 }
 
 // How many bytes a saved state has.
-fn size(nodes: u8, threads: u8) -> usize
-    ensures { λ r. ⌜ r ≡ sizeOf nodes threads ⌝ }
+fn size(threads: u8, nodes: u8) -> usize
+    ensures { λ r. ⌜ r ≡ sizeFor threads nodes ⌝ }
 {
     HEADER_WIDTH + NODE_WIDTH * (nodes as usize) + THREAD_WIDTH * (threads as usize)
 }
@@ -181,7 +181,7 @@ fn good(bytes: &[u8]) -> bool
         return false;
     }
     let sh = header_at(bytes);
-    if bytes.len() != size(sh.nodes, sh.threads) {
+    if bytes.len() != size(sh.threads, sh.nodes) {
         return false;
     }
     let nodes = rest(bytes, HEADER_WIDTH);
@@ -390,7 +390,7 @@ pub fn save(s: State, out: &mut [u8]) -> u8
     ensures { λ r. ⌜ (r ≡ saveNumber s (now (out .entry))) × (now (out .exit) ≡ savedOver s (now (out .entry))) ⌝ }
 {
     let bad = !lock::valid(s);
-    let short = out.len() < size(s.shared.nodes, s.shared.threads);
+    let short = out.len() < size(s.shared.threads, s.shared.nodes);
     let answer = number::first(bad, BAD_STATE, number::first(short, TOO_SHORT, DONE));
     if answer == DONE {
         put_state(s, out);

@@ -50,6 +50,9 @@ module _ (T K : ℕ) (es : List Event) where
   pub length-written : length (scheduleOf T K es) ≡ width + width * length es
   length-written = Round.length-written T K es
 
+  pub many-written : eventsIn (scheduleOf T K es) ≡ length es
+  many-written = Round.many-written T K es
+
 -- "No events at all is a good schedule."
 pub none-good : (T K : ℕ) → inSize T K ≡ true → (good (heading .bytes (sizes T K)) ≡ true) × (eventsOf (heading .bytes (sizes T K)) ≡ [])
 none-good = Round.none-good

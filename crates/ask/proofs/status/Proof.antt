@@ -2,7 +2,7 @@
 use mathlib.Core.Path.{sym, _∙_}
 use borrow.Author.Needs.{needs}
 use Rattle.ask.specs.Ask.{status}
-use Rattle.ask.specs.Proof.Answer.{shared-in-range}
+use Rattle.lock.specs.Judged.{passed, shared-rule}
 use Rattle.ask.proofs.status.Statement.{statement}
 use Rattle.ask.proofs.status.Tie as tie
 
@@ -11,7 +11,7 @@ valid-requires c κs = search needs
 
 status-of-requires : tie.Need-status-of-requires
 status-of-requires c κs =
-    shared-in-range (c .before .before .args .s) (sym (c .before .valid .ensures) ∙ c .if1 .taken) .threads .to
+    shared-rule _ (passed (c .before .before .args .s) (sym (c .before .valid .ensures) ∙ c .if1 .taken) .shared) .threads .to
 
 answered-requires : tie.Need-answered-requires
 answered-requires c κs = search needs

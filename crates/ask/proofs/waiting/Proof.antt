@@ -3,7 +3,7 @@
 use mathlib.Core.Path.{sym, _∙_}
 use borrow.Author.Needs.{needs}
 use Rattle.ask.specs.Ask.{waiting}
-use Rattle.ask.specs.Proof.Answer.{shared-in-range}
+use Rattle.lock.specs.Judged.{passed, shared-rule}
 use Rattle.ask.proofs.waiting.Statement.{statement}
 use Rattle.ask.proofs.waiting.Tie as tie
 
@@ -12,7 +12,7 @@ valid-requires c κs = search needs
 
 how-many-threads-requires : tie.Need-how-many-threads-requires
 how-many-threads-requires c κs =
-    shared-in-range (c .before .before .args .s) (sym (c .before .valid .ensures) ∙ c .if1 .taken) .threads .to
+    shared-rule _ (passed (c .before .before .args .s) (sym (c .before .valid .ensures) ∙ c .if1 .taken) .shared) .threads .to
 
 answered-requires : tie.Need-answered-requires
 answered-requires c κs = search needs

@@ -1,32 +1,25 @@
 -- What a question gives, case by case: its value in a valid state and refusal 1 in any other; the numbers of a chain question, and what it gives and
 -- writes by its number. Rests on FirstThat (crate `number`) and on the rule of a state. Assumes nothing.
-use mathlib.Core.Bool.{false, not-eq-not, true}
+use mathlib.Core.Bool.{false, not-eq-not}
 use mathlib.Core.List.{List}
 use mathlib.Core.Logic.{_≢_, _↔_}
-use mathlib.Core.Path.{_≡_, refl, _∙_}
-use Prim.Native.Nat.{ℕ, _+_, _-_, _≤_}
+use mathlib.Core.Path.{_≡_, refl}
+use Prim.Native.Nat.{ℕ, _≤_}
 use native.Mathlib.Omega.{arith}
-use lib.ListN.{drop, getD, length}
-use lib.Seq.{getD-append-add, getD-drop}
+use lib.ListN.{getD, length}
 use borrow.Author.Tests.{ltb-false, ne-eqb}
-use Rattle.lock.specs.Judged.{in-table, judges-outside, judges-state, rule-valid, shared-rule, valid-rule}
-use Rattle.lock.specs.Valid.{Between, SharedRange, Sized, Valid, nodesValid, valid}
+use Rattle.lock.specs.Judged.{in-table, judges-outside, judges-state, rule-valid, valid-rule}
+use Rattle.lock.specs.Valid.{Between, Sized, Valid, valid}
 use Rattle.lock.specs.declared.State.{State}
 use Rattle.number.specs.FirstThat.{judges-short, none-holds, number-exactly}
 use Rattle.number.specs.Refused.{badState, done, wrongNode}
-use Rattle.number.specs.Tests.{first-holds}
 use Rattle.number.specs.declared.NodeNo.{NodeNo}
 use Rattle.rows.specs.Rows.{over}
+use Rattle.rows.specs.Stored.{over-later}
 use Rattle.ask.specs.Ask.{answered, chain, chainBytes, chainFrom, chainList, chainNumber, chainRefusals, judged, refused}
 use Rattle.ask.specs.Meaning.{First, chainConditions}
 
 -- ---- a question that judges its state
-
--- The shared numbers of a state that passes the test are in the ranges.
-pub shared-in-range : (s : State) → valid s ≡ true → SharedRange (s .shared)
-unfolding valid
-shared-in-range s h =
-    shared-rule (s .shared) (first-holds _ (nodesValid (s .shared .nodes) (s .node)) (first-holds _ _ h))
 
 -- In a valid state the question has its value.
 pub judged-valid : (s : State) (value : ℕ) → Valid s → judged s value ≡ answered value
@@ -72,7 +65,4 @@ module _ (s : State) (from : NodeNo) (out : List ℕ) where
   -- From the list's end on every byte is as it was.
   pub bytes-stay : (i : ℕ) → chain s from out .value ≤ i → getD (chainBytes s from out) i 0 ≡ getD out i 0
   unfolding chain chainBytes
-  bytes-stay i h =
-      let list = chainList s from (length out) in
-      let e : length list + (i - length list) ≡ i = omega arith in
-      rw e at (getD-append-add list (drop (length list) out) (i - length list) 0 ∙ getD-drop (length list) out (i - length list) 0)
+  bytes-stay i h = over-later (chainList s from (length out)) out i h

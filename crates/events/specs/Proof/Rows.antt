@@ -86,7 +86,9 @@ module _ (tool : Tool) where
   joined later =
       by-events (λ s es. stopping (rowAnswers tool s es) ≡ done → Joined s es later)
       (λ s on. record { answers = refl; end = refl })
-      (λ s e es h rest on. let j = rest (rw h at on) in record { answers = rw h (ap (λ (l : List ℕ). given s e .answer ∷ l) (j .answers)); end = rw h (j .end) })
+      (λ s e es h rest on.
+      let j = rest (rw h at on) in
+      record { answers = rw h (ap (λ (l : List ℕ). given s e .answer ∷ l) (j .answers)); end = rw h (j .end) })
       (λ s e es h on. absurd (stop-not-done _ h (rw h at on)))
 
   -- where it stops, they are not taken
@@ -99,7 +101,9 @@ module _ (tool : Tool) where
   untaken later =
       by-events (λ s es. stopping (rowAnswers tool s es) ≢ done → Untaken s es later)
       (λ s off. absurd (off refl))
-      (λ s e es h rest off. let u = rest (rw h at off) in record { answers = rw h (ap (λ (l : List ℕ). given s e .answer ∷ l) (u .answers)); end = rw h (u .end) })
+      (λ s e es h rest off.
+      let u = rest (rw h at off) in
+      record { answers = rw h (ap (λ (l : List ℕ). given s e .answer ∷ l) (u .answers)); end = rw h (u .end) })
       (λ s e es h off. record { answers = rw h; end = rw h })
 
   -- ---- a row that does not stop, and then an event that does

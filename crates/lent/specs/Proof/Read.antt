@@ -1,16 +1,17 @@
 -- A step of what was read. What was read is valid, so the step does not judge it again; the state after the step is valid and has the same T and K,
 -- so its bytes are as many as those that were read. Rests on the theorems of `saved` and of `step`. Assumes nothing.
-use mathlib.Core.List.{List, append-nil}
+use mathlib.Core.List.{List}
 use mathlib.Core.Path.{_≡_, sym, _∙_}
-use Prim.Native.Nat.{ℕ, _≤_}
+use Prim.Native.Nat.{ℕ}
 use native.Mathlib.Omega.{arith}
-use lib.ListN.{drop-of-length-le, length}
+use lib.ListN.{length}
 use Rattle.lock.specs.Valid.{Valid}
 use Rattle.lock.specs.declared.State.{State}
 use Rattle.number.specs.Refused.{done}
 use Rattle.number.specs.declared.NodeNo.{NodeNo}
 use Rattle.number.specs.declared.ThreadNo.{ThreadNo}
 use Rattle.rows.specs.Rows.{over}
+use Rattle.rows.specs.Stored.{over-all}
 use Rattle.saved.specs.Inner.{Room}
 use Rattle.saved.specs.Saved.{bytesOf, read}
 use Rattle.saved.specs.Theorems.{read-size, read-valid, saved-size}
@@ -45,6 +46,4 @@ module _ (b : List ℕ) (t : ThreadNo) (n : NodeNo) (opens : read b .number ≡ 
 
     -- .. and they lie over all of them
     pub all-over : over (bytesOf after) b ≡ bytesOf after
-    all-over =
-        let nothing : length b ≤ length (bytesOf after) = omega (arith, same-length) in
-        rw (drop-of-length-le b nothing) (append-nil (bytesOf after))
+    all-over = over-all (bytesOf after) b (omega (arith, same-length))

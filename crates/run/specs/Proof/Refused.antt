@@ -8,18 +8,18 @@ use native.Mathlib.Decide.{ℕ-discrete}
 use native.Mathlib.Omega.{arith}
 use lib.Dec.{eqb}
 use lib.ListN.{length}
-use borrow.Author.Tests.{eq-eqb, eqb-true, le-ltb, ltb-false, not-false, not-true}
+use borrow.Author.Tests.{eq-eqb, eqb-true, le-ltb, ltb-false, not-false}
 use Rattle.events.specs.declared.Event.{Event}
 use Rattle.lock.specs.Fresh.{inSize}
 use Rattle.lock.specs.Judged.{judges-state, rule-size, rule-valid, valid-rule}
 use Rattle.lock.specs.Valid.{Sized, Valid, valid}
 use Rattle.lock.specs.declared.State.{State}
-use Rattle.number.specs.FirstThat.{AllReflect, Reflects, Rising, done-exactly, first-at-most, judges-short, none-holds, number-exactly}
-use Rattle.number.specs.FirstThat.{this-exactly as given-exactly}
+use Rattle.number.specs.FirstThat.{AllReflect, Reflects, Rising, done-exactly, first-at-most, judges-rule, judges-short, none-holds, number-exactly}
+use Rattle.number.specs.FirstThat.{this-exactly}
 use Rattle.number.specs.Refused.{_if_, badSchedule, badSize, done, tooShort}
 use Rattle.number.specs.Tests.{neither-holds}
 use Rattle.schedule.specs.Schedule.{GoodSchedule, eventsIn, good, headingOf, mostBytes, scheduleOf, width}
-use Rattle.schedule.specs.Theorems.{events-written, good-schedule, heading-written, length-events, written-good}
+use Rattle.schedule.specs.Theorems.{good-schedule, heading-written, many-written, written-good}
 use Rattle.schedule.specs.declared.Heading.{Heading}
 use Rattle.run.specs.Conditions.{Accepted, Condition, First, NoneApply, _given-when_, conditions}
 use Rattle.run.specs.Run.{differ, refusal, refusals}
@@ -27,10 +27,7 @@ use Rattle.run.specs.Run.{differ, refusal, refusals}
 -- ---- a test and its condition
 
 judges-schedule : (b : List ℕ) → Reflects (badSchedule if not (good b)) (badSchedule given-when (¬ GoodSchedule b))
-judges-schedule b = record {
-  holds = λ e. ((λ rule. true≢false (sym (good-schedule b .1 rule) ∙ not-true _ e)), refl);
-  fails = λ e broken. broken (good-schedule b .0 (not-false _ e));
-}
+judges-schedule b = judges-rule badSchedule (good-schedule b)
 
 module _ (s : State) (b : List ℕ) where
   abbrev T : ℕ
@@ -116,15 +113,12 @@ module _ (s : State) (b : List ℕ) (room : ℕ) where
     unfolding refusal
     none-exactly = done-exactly (refusals s b room) (conditions s b room) judges rising
 
-    pub this-exactly : (before : List Condition) (c : Condition) (later : List Condition) → conditions s b room ≡ before ++ c ∷ later
+    pub given-exactly : (before : List Condition) (c : Condition) (later : List Condition) → conditions s b room ≡ before ++ c ∷ later
         → (refusal s b room ≡ c .number) ↔ (NoneApply before × c .applies)
     unfolding refusal
-    this-exactly before c later split = given-exactly (refusals s b room) (conditions s b room) judges rising before c later split
+    given-exactly before c later split = this-exactly (refusals s b room) (conditions s b room) judges rising before c later split
 
 -- ---- a schedule that was written, and a state with its T and K
-pub many : (T K : ℕ) (es : List Event) → eventsIn (scheduleOf T K es) ≡ length es
-many T K es = sym (length-events (scheduleOf T K es)) ∙ ap length (events-written T K es)
-
 module _ (T K : ℕ) (es : List Event) (s : State) (room : ℕ) (rule : Valid s) (threads : s .shared .threads ≡ T) (nodes : s .shared .nodes ≡ K) where
   size : inSize T K ≡ true
   size = rw (threads, nodes) at (rule-size (s .shared .threads) (s .shared .nodes) (rule .shared .threads) (rule .shared .nodes))
@@ -135,5 +129,5 @@ module _ (T K : ℕ) (es : List Event) (s : State) (room : ℕ) (rule : Valid s)
     schedule = good-schedule (scheduleOf T K es) .0 (written-good T K es size short);
     threads = threads ∙ sym (ap (λ (h : Heading). h .threads) (heading-written T K es));
     nodes = nodes ∙ sym (ap (λ (h : Heading). h .nodes) (heading-written T K es));
-    answers = rw (many T K es) enough;
+    answers = rw (many-written T K es) enough;
   }

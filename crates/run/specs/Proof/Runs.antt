@@ -3,11 +3,10 @@
 use mathlib.Core.List.{List}
 use mathlib.Core.Logic.{_≢_, _⊎_, _↔_, by-cases, inl, inr}
 use mathlib.Core.Path.{_≡_, ap, refl, sym, _∙_}
-use Prim.Native.Nat.{ℕ, _+_, _-_, _≤_, _<_}
+use Prim.Native.Nat.{ℕ, _≤_, _<_}
 use native.Mathlib.Decide.{ℕ-discrete}
 use native.Mathlib.Omega.{arith}
-use lib.ListN.{List·getD-append, drop, getD, length, take}
-use lib.Seq.{getD-append-add, getD-drop}
+use lib.ListN.{getD, length, take}
 use borrow.Author.Tests.{ne-eqb}
 use Rattle.events.specs.Events.{after, answers}
 use Rattle.events.specs.FigureRun.{FigureRun}
@@ -18,6 +17,7 @@ use Rattle.lock.specs.Valid.{Between, Sized, Valid}
 use Rattle.lock.specs.declared.State.{State}
 use Rattle.number.specs.Refused.{badState, done, noPlaceLeft, noSuchThread, tooShort}
 use Rattle.rows.specs.Rows.{over}
+use Rattle.rows.specs.Stored.{over-at, over-later}
 use Rattle.schedule.specs.Schedule.{eventsIn, eventsOf}
 use Rattle.schedule.specs.Theorems.{length-events}
 use Rattle.step.specs.Step.{advance, step}
@@ -78,13 +78,10 @@ module _ (s : State) (b out : List ℕ) where
 
     -- ---- its bytes
     pub at-place : (i : ℕ) → i < length given → getD (runBytes s b out) i 0 ≡ getD given i 0
-    at-place i l = rw (run-row .1) (List·getD-append given (drop (length given) out) 0 i l)
+    at-place i l = rw (run-row .1) (over-at given out i l)
 
     pub later-stay : (i : ℕ) → length given ≤ i → getD (runBytes s b out) i 0 ≡ getD out i 0
-    later-stay i l =
-        let far : length given + (i - length given) ≡ i = omega arith in
-        ap (λ (o : List ℕ). getD o i 0) (run-row .1)
-        ∙ rw far at (getD-append-add given (drop (length given) out) (i - length given) 0 ∙ getD-drop (length given) out (i - length given) 0)
+    later-stay i l = rw (run-row .1) (over-later given out i l)
 
     -- ---- the figure's run
     pub run-figure : (told : List ℕ) (s′ : State) → FigureRun s (eventsOf b) told s′

@@ -14,11 +14,11 @@ use Rattle.lock.specs.declared.State.{State}
 use Rattle.number.specs.Refused.{done}
 use Rattle.rows.specs.Rows.{over}
 use Rattle.schedule.specs.Schedule.{eventsOf, mostBytes, scheduleOf, width}
-use Rattle.schedule.specs.Theorems.{events-written, heading-written, length-written}
+use Rattle.schedule.specs.Theorems.{events-written, heading-written, length-written, many-written}
 use Rattle.schedule.specs.declared.Heading.{Heading}
 use Rattle.step.specs.Step.{advance}
 use Rattle.run.specs.Conditions.{Accepted}
-use Rattle.run.specs.Proof.Refused.{accepted-written, many}
+use Rattle.run.specs.Proof.Refused.{accepted-written}
 use Rattle.run.specs.Proof.Runs.{gives, report-of, run-size, run-valid, state-of, stop-of, stores}
 use Rattle.run.specs.Run.{answersOf, ran, ranOver, reportOf, reported, run, runBytes}
 
@@ -43,7 +43,7 @@ module _ (T K : ℕ) (es later : List Event) (s : State) (out : List ℕ) (whole
   short = omega (arith, whole .schedule .short, length-written T K (es ++ later), length-append es later)
 
   room : length es + length later ≤ length out
-  room = omega (arith, whole .answers, many T K (es ++ later), length-append es later)
+  room = omega (arith, whole .answers, many-written T K (es ++ later), length-append es later)
 
   pub first-accepted : (out₁ : List ℕ) → length es ≤ length out₁ → Accepted s b₁ (length out₁)
   first-accepted out₁ room₁ = accepted-written T K es s (length out₁) (whole .state) threads-are nodes-are (short .0) room₁

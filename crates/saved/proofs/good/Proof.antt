@@ -14,7 +14,7 @@ returns : tie.Need-returns
 unfolding goodBy
 returns c =
     let b = c .before .before .args .bytes .now in
-    rw (ne-eqb (length b) (size (headerIn b .nodes) (headerIn b .threads)) (λ e. omega arith))
+    rw (ne-eqb (length b) (size (headerIn b .threads) (headerIn b .nodes)) (λ e. omega arith))
 
 header-at-requires : tie.Need-header-at-requires
 header-at-requires c κs = search needs
@@ -23,8 +23,8 @@ size-requires : tie.Need-size-requires
 size-requires c κs = search needs
 
 -- the size that the header's numbers ask for
-asked : (c : tie.After-size) → let b = c .before .before .before .before .args .bytes .now in c .size .result ≡ size (headerIn b .nodes) (headerIn b .threads)
-asked c = c .size .ensures ∙ ap (λ (sh : Shared). size (sh .nodes) (sh .threads)) (c .before .header-at .ensures)
+asked : (c : tie.After-size) → let b = c .before .before .before .before .args .bytes .now in c .size .result ≡ size (headerIn b .threads) (headerIn b .nodes)
+asked c = c .size .ensures ∙ ap (λ (sh : Shared). size (sh .threads) (sh .nodes)) (c .before .header-at .ensures)
 
 returns-2 : tie.Need-returns-2
 unfolding goodBy

@@ -20,7 +20,7 @@ file c = good-rule (c .args .b .now) (c .pre)
 
 -- so what its header asks for is there
 record Fits (sh : Shared) (b : List ℕ) : Type 0 where
-  exact : length b ≡ size (sh .nodes) (sh .threads)
+  exact : length b ≡ size (sh .threads) (sh .nodes)
   nodes : sh .nodes ≤ mostNodes
   threads : sh .threads ≤ mostThreads
 

@@ -7,7 +7,7 @@ use lib.ListN.{length}
 use borrow.Author.Needs.{needs}
 use Rattle.lock.specs.Laws.{length-mapped}
 use Rattle.lock.specs.State.{tableSize, zeroNode}
-use Rattle.rows.specs.Loops.{fill-more}
+use Rattle.rows.specs.Loops.{read-more}
 use Rattle.rows.specs.Rows.{values}
 use Rattle.saved.specs.Inner.{withNodes}
 use Rattle.saved.specs.Saved.{nodeRecord}
@@ -58,7 +58,7 @@ loop-again c =
     let start = c .before .before .before .before .before .before in
     let s = start .args .s in
     let b = start .args .b .now in
-    let more = fill-more (nodeRecord (s .shared .nodes)) (l .i) b (s .node) zeroNode (omega (arith, room start)) in (
+    let more = read-more (nodeRecord (s .shared .nodes)) (l .i) b (s .node) zeroNode (omega (arith, room start)) in (
       search needs,
       rw (l .inv .1, c .node-at .ensures, c .before .rest .ensures .0) (λ j. record { shared = s .shared; node = more j; thread = s .thread }),
     )

@@ -7,7 +7,7 @@ use lib.ListN.{length}
 use borrow.Author.Needs.{needs}
 use Rattle.lock.specs.Laws.{length-mapped}
 use Rattle.lock.specs.State.{tableSize, zeroThread}
-use Rattle.rows.specs.Loops.{fill-more}
+use Rattle.rows.specs.Loops.{read-more}
 use Rattle.rows.specs.Rows.{values}
 use Rattle.saved.specs.Inner.{withThreads}
 use Rattle.saved.specs.Saved.{threadRecord}
@@ -58,7 +58,7 @@ loop-again c =
     let start = c .before .before .before .before .before .before in
     let s = start .args .s in
     let b = start .args .b .now in
-    let more = fill-more (threadRecord (s .shared .nodes)) (l .i) b (s .thread) zeroThread (omega (arith, room start)) in (
+    let more = read-more (threadRecord (s .shared .nodes)) (l .i) b (s .thread) zeroThread (omega (arith, room start)) in (
       search needs,
       rw (l .inv .1, c .thread-at .ensures, c .before .rest .ensures .0) (λ j. record { shared = s .shared; node = s .node; thread = more j }),
     )

@@ -4,37 +4,13 @@
 use mathlib.Core.Bool.{true}
 use mathlib.Core.List.{List}
 use mathlib.Core.Path.{_≡_}
-use Prim.Native.Nat.{ℕ, _+_, _*_, _<_}
-use lib.ListN.{drop}
-use lib.Seq.{drop-drop}
+use Prim.Native.Nat.{ℕ}
 use borrow.Author.Tests.{eq-eqb, eqb-true}
 use Rattle.lock.specs.Judged.{node-rule, rule-node, rule-shared, rule-thread, shared-rule, thread-rule}
-use Rattle.number.specs.Tests.{all-hold, both-hold, each-holds, first-holds, second-holds}
-use Rattle.rows.specs.Places.{at-good, good-at, mark-rule, rule-mark}
-use Rattle.rows.specs.Rows.{Kind, allGood, good, marked}
+use Rattle.number.specs.Tests.{all-hold, each-holds}
+use Rattle.rows.specs.Places.{all-good, each-in, each-marked, mark-rule, rule-mark}
 use Rattle.saved.specs.Saved.{SavedFile, letterH, letterL, letterN, letterT, goodBy, goodTests, headerIn, headerWidth, nodeRecord}
 use Rattle.saved.specs.Saved.{savedGood, threadRecord, threadsPlace}
-
--- ---- all records of a kind, from a place of b on
-module _ {A : Type 0} (kind : Kind A) (from n : ℕ) (b : List ℕ) where
-  -- what lies from record i on
-  abbrev here : ℕ → List ℕ
-  here i = drop (from + kind .width * i) b
-
-  -- where all are good, each is: it has its mark, and it is in range
-  each-good : allGood kind n (drop from b) ≡ true → (i : ℕ) → i < n → good kind (here i) ≡ true
-  each-good h i l = rw (drop-drop (kind .width * i) from b) at (good-at kind n i (drop from b) h l)
-
-  each-marked : allGood kind n (drop from b) ≡ true → (i : ℕ) → i < n → marked (kind .mark₁) (kind .mark₂) (here i) ≡ true
-  each-marked h i l = first-holds _ _ (each-good h i l)
-
-  each-in : allGood kind n (drop from b) ≡ true → (i : ℕ) → i < n → kind .inRange (kind .value (here i)) ≡ true
-  each-in h i l = second-holds (marked (kind .mark₁) (kind .mark₂) (here i)) _ (each-good h i l)
-
-  -- and back
-  all-good : ((i : ℕ) → i < n → marked (kind .mark₁) (kind .mark₂) (here i) ≡ true) → ((i : ℕ) → i < n → kind .inRange (kind .value (here i)) ≡ true)
-      → allGood kind n (drop from b) ≡ true
-  all-good mark range = at-good kind n (drop from b) (λ i l. rw (drop-drop (kind .width * i) from b) (both-hold (mark i l) (range i l)))
 
 -- ---- the file
 module _ (b : List ℕ) where

@@ -1,6 +1,6 @@
 -- What was saved is read as it was. Each table of a valid state is its first elements and zeros (Tables), and the records of these elements are good
 -- and read as they were. Rests on the round trip of records (crate `rows`). Assumes nothing.
-use mathlib.Core.Bool.{true, _&&_}
+use mathlib.Core.Bool.{true}
 use mathlib.Core.List.{List, [], _++_, append-nil}
 use mathlib.Core.Path.{_≡_, ap, refl, sym, _∙_}
 use Prim.Native.Nat.{ℕ, _*_, _≤_}
@@ -9,13 +9,13 @@ use lib.ListN.{drop, length, take}
 use lib.Seq.{drop-at, drop-drop, length-take-le}
 use borrow.Author.Tests.{eq-eqb}
 use Rattle.lock.specs.Fresh.{opened}
-use Rattle.lock.specs.Judged.{nodes-agree, rule-shared, rule-valid, threads-agree}
+use Rattle.lock.specs.Judged.{nodes-agree, passed, rule-shared, rule-valid, threads-agree}
 use Rattle.lock.specs.State.{zeroNode, zeroThread}
-use Rattle.lock.specs.Valid.{Valid, nodeInRange, nodeIsZero, nodesValid, sharedValid, threadInRange, threadIsZero, threadsValid, upTo, valid}
+use Rattle.lock.specs.Valid.{Valid, nodeInRange, nodeIsZero, nodesValid, sharedValid, threadInRange, threadIsZero, threadsValid, upTo}
 use Rattle.lock.specs.declared.Shared.{Shared}
 use Rattle.lock.specs.declared.State.{State}
 use Rattle.number.specs.Refused.{done}
-use Rattle.number.specs.Tests.{all-hold, first-holds, second-holds}
+use Rattle.number.specs.Tests.{all-hold}
 use Rattle.rows.specs.Round.{good-laid, values-laid}
 use Rattle.rows.specs.Rows.{Kind, Lawful, allGood, allIn, laid, marked, values}
 use Rattle.saved.specs.Proof.Records.{header-lawful, node-lawful, thread-lawful}
@@ -51,12 +51,12 @@ module _ (s : State) (v : Valid s) where
   shared-test = rule-shared (s .shared) (v .shared)
 
   nodes-test : upTo (nodeInRange K) nodeIsZero K (s .node) ≡ true
-  unfolding valid nodesValid
-  nodes-test = second-holds (sharedValid (s .shared)) _ (first-holds _ _ (rule-valid s v))
+  unfolding nodesValid
+  nodes-test = passed s (rule-valid s v) .nodes
 
   threads-test : upTo (threadInRange K) threadIsZero T (s .thread) ≡ true
-  unfolding valid threadsValid
-  threads-test = second-holds (sharedValid (s .shared) && nodesValid K (s .node)) _ (rule-valid s v)
+  unfolding threadsValid
+  threads-test = passed s (rule-valid s v) .threads
 
   nodes-in : allIn (nodeInRange K) (take K (s .node)) ≡ true
   nodes-in = front-in (nodes-agree K) K (s .node) nodes-test

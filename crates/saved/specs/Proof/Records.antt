@@ -11,8 +11,7 @@ use lib.Pow.{pow-mono}
 use Rattle.lock.specs.Judged.{shared-rule, thread-rule}
 use Rattle.lock.specs.Valid.{SharedRange, ThreadRange, sharedValid}
 use Rattle.lock.specs.declared.Shared.{Shared}
-use Rattle.rows.specs.Places.{mark-rule}
-use Rattle.rows.specs.Round.{listed, listed-front}
+use Rattle.rows.specs.Round.{begun, listed, listed-front}
 use Rattle.rows.specs.Rows.{Bytes, Lawful, marked}
 use Rattle.saved.specs.Saved.{letterH, letterL, letterN, letterT, fourAt, fourBytes, header, headerBytes, headerIn, headerWidth}
 use Rattle.saved.specs.Saved.{nodeRecord, nodeWidth, threadRecord, threadWidth}
@@ -44,12 +43,6 @@ four-written : (b : List ℕ) (at : ℕ) → Bytes b
     → fourBytes (fourAt b at) ≡ getD b at 0 ∷ getD b (at + 1) 0 ∷ getD b (at + 2) 0 ∷ getD b (at + 3) 0 ∷ []
 four-written b at bytes = bytes-written _ _ _ _ (bytes at) (bytes (at + 1)) (bytes (at + 2)) (bytes (at + 3))
 
--- ---- marks
-
--- the two bytes of a mark that is there
-begun : (letter : ℕ) (r : List ℕ) → marked letterL letter r ≡ true → letterL ∷ letter ∷ [] ≡ listed 2 0 r
-begun letter r h = let m = mark-rule r 0 letterL letter h in rw (m .0, m .1)
-
 -- ---- the kinds. What is read from behind a mark is written again byte by byte: the mark, single bytes, numbers of four bytes.
 
 -- The header is lawful.
@@ -69,7 +62,7 @@ header-lawful = record { wide = λ sh. refl; begins = λ sh r. refl; reads = bac
 
     again : (r : List ℕ) → Bytes r → headerWidth ≤ length r → marked letterL letterH r ≡ true → headerBytes (headerIn r) ≡ take headerWidth r
     again r bytes l m =
-        (λ i. begun letterH r m i ++ listed 5 2 r
+        (λ i. begun letterL letterH r m i ++ listed 5 2 r
         ++ four-written r 7 bytes i ++ four-written r 11 bytes i ++ four-written r 15 bytes i ++ four-written r 19 bytes i)
         ∙ listed-front headerWidth r l
 
@@ -79,7 +72,7 @@ node-lawful K = record {
   wide = λ v. refl;
   begins = λ v r. refl;
   reads = λ v r h. refl;
-  writes = λ r bytes l m. (λ i. begun letterN r m i ++ listed 2 2 r) ∙ listed-front nodeWidth r l;
+  writes = λ r bytes l m. (λ i. begun letterL letterN r m i ++ listed 2 2 r) ∙ listed-front nodeWidth r l;
 }
 
 -- Records of threads are lawful.
@@ -88,5 +81,5 @@ thread-lawful K = record {
   wide = λ v. refl;
   begins = λ v r. refl;
   reads = λ v r h. let range : ThreadRange K v = thread-rule K v h in rw (four-read (v .slot .0) (omega arith));
-  writes = λ r bytes l m. (λ i. begun letterT r m i ++ listed 5 2 r ++ four-written r 7 bytes i) ∙ listed-front threadWidth r l;
+  writes = λ r bytes l m. (λ i. begun letterL letterT r m i ++ listed 5 2 r ++ four-written r 7 bytes i) ∙ listed-front threadWidth r l;
 }

@@ -9,13 +9,12 @@ use native.Mathlib.Omega.{arith}
 use lib.ListN.{drop, length, take}
 use lib.Seq.{drop-at, take-at}
 use borrow.Author.Tests.{eq-eqb, le-ltb, ltb-false, ne-eqb, not-false}
-use Rattle.lock.specs.Judged.{judges-state, rule-valid, shared-rule, valid-rule}
+use Rattle.lock.specs.Judged.{judges-state, passed as state-passed, rule-valid, shared-rule, valid-rule}
 use Rattle.lock.specs.Valid.{Sized, Valid, valid}
 use Rattle.lock.specs.declared.State.{State}
 use Rattle.number.specs.First.{First}
 use Rattle.number.specs.FirstThat.{judges-short, none-holds, number-exactly}
 use Rattle.number.specs.Refused.{done}
-use Rattle.number.specs.Tests.{first-holds}
 use Rattle.saved.specs.Proof.Size.{length-bytes}
 use Rattle.saved.specs.Inner.{Room}
 use Rattle.saved.specs.Saved.{bytesOf, saveConditions, saveNumber, saveRefusals, savedOver, sizeOf}
@@ -27,10 +26,9 @@ module _ (s : State) (out : List ℕ) where
   passed h = let off = none-holds (saveRefusals s out) (omega arith) h in (not-false _ (off .0), ltb-false _ _ (off .1 .0))
 
   pub room : saveNumber s out ≡ done → Room s out
-  unfolding valid
   room h =
       let p = passed h in
-      let range = shared-rule (s .shared) (first-holds _ _ (first-holds _ _ (p .0))) in
+      let range = shared-rule (s .shared) (state-passed s (p .0) .shared) in
       record { nodes = range .nodes .to; threads = range .threads .to; long = p .1 }
 
   -- ---- each number exactly when, for a state whose tables have their size

@@ -3,7 +3,7 @@
 use mathlib.Core.Bool.{Bool, true}
 use mathlib.Core.List.{List, _++_}
 use mathlib.Core.Path.{_≡_, _∙_}
-use Prim.Native.Nat.{ℕ, _+_, _-_, _*_, _≤_}
+use Prim.Native.Nat.{ℕ, _-_, _*_, _≤_}
 use native.Mathlib.Omega.{arith}
 use lib.ListN.{drop, length, length-append, length-drop, length-replicate, replicate, take, take-append-drop}
 use lib.Seq.{take-add, take-all, take-at}
@@ -48,7 +48,7 @@ module _ (sh : Shared) (b : List ℕ) (good : goodBy sh b ≡ true) where
   unfolding goodBy
   tests = each-holds (goodTests sh b) good
 
-  exact : length b ≡ size K T
+  exact : length b ≡ size T K
   exact = eqb-true _ _ (tests .0)
 
   range : SharedRange sh

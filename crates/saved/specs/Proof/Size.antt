@@ -8,11 +8,11 @@ use lib.Seq.{sets}
 use Rattle.lock.specs.Valid.{Sized}
 use Rattle.lock.specs.declared.State.{State}
 use Rattle.number.specs.Sizes.{mostNodes, mostThreads}
-use Rattle.rows.specs.Loops.{length-front}
+use Rattle.rows.specs.Loops.{length-laid-front}
 use Rattle.rows.specs.Rows.{over}
 use Rattle.rows.specs.Stored.{sets-append, sets-over}
 use Rattle.saved.specs.Proof.Records.{node-lawful, thread-lawful}
-use Rattle.saved.specs.Saved.{bytesOf, headerBytes, headerWidth, nodeRecord, nodeWidth, nodesBytes, size, threadRecord, threadWidth}
+use Rattle.saved.specs.Saved.{bytesOf, headerBytes, headerWidth, nodeRecord, nodeWidth, nodesBytes, sizeOf, threadRecord, threadWidth}
 use Rattle.saved.specs.Saved.{threadsBytes, threadsPlace}
 
 -- three lists, stored one behind the other from the start on
@@ -34,19 +34,19 @@ module _ (s : State) (sized : Sized s) (fewNodes : s .shared .nodes ≤ mostNode
   front = headerBytes (s .shared)
 
   pub length-nodes : length (nodesBytes s) ≡ nodeWidth * K
-  length-nodes = length-front (nodeRecord K) (node-lawful K) K (s .node) (omega (arith, sized .nodes))
+  length-nodes = length-laid-front (nodeRecord K) (node-lawful K) K (s .node) (omega (arith, sized .nodes))
 
   length-threads : length (threadsBytes s) ≡ threadWidth * T
-  length-threads = length-front (threadRecord K) (thread-lawful K) T (s .thread) (omega (arith, sized .threads))
+  length-threads = length-laid-front (threadRecord K) (thread-lawful K) T (s .thread) (omega (arith, sized .threads))
 
-  pub length-bytes : length (bytesOf s) ≡ size K T
+  pub length-bytes : length (bytesOf s) ≡ sizeOf s
   unfolding bytesOf
   length-bytes =
       length-append (front ++ nodesBytes s) (threadsBytes s)
       ∙ omega (arith, length-append front (nodesBytes s), length-nodes, length-threads)
 
   -- The header, the nodes and the threads, each stored at its place, are the saved state at the start.
-  pub stored-parts : (out : List ℕ) → size K T ≤ length out
+  pub stored-parts : (out : List ℕ) → sizeOf s ≤ length out
       → sets (sets (sets out 0 front) headerWidth (nodesBytes s)) (threadsPlace K) (threadsBytes s) ≡ over (bytesOf s) out
   unfolding bytesOf
   stored-parts out room =

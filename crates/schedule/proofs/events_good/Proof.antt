@@ -52,7 +52,8 @@ loop-again : tie.Need-loop-again Inv-loop μ-loop
 loop-again c =
     let l = c .before .before .before .loop in
     let b = c .before .before .before .before .before .before .args .schedule .now in
-    (search needs, rw (l .inv .1, add-one (l .i), ← (event-judged b (l .i) ∙ marked-at b (startOf (l .i)) letterS letterE)) (judge-more eventRecord (l .i) (drop width b)))
+    let judged = event-judged b (l .i) ∙ marked-at b (startOf (l .i)) letterS letterE in
+    (search needs, rw (l .inv .1, add-one (l .i), ← judged) (judge-more eventRecord (l .i) (drop width b)))
 
 returns : tie.Need-returns Inv-loop μ-loop
 unfolding eventsGood

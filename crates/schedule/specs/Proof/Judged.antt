@@ -2,7 +2,7 @@
 -- fact of the rule; the events are judged one at a time (crate `rows`, Places). Assumes nothing.
 use mathlib.Core.Bool.{and-true, true}
 use mathlib.Core.List.{List}
-use mathlib.Core.Path.{_≡_, sym, _∙_}
+use mathlib.Core.Path.{_≡_, refl}
 use Prim.Native.Nat.{ℕ, _*_, _%_, _≤_, _<_}
 use native.Mathlib.Omega.{arith}
 use lib.ListN.{drop, length}
@@ -11,7 +11,7 @@ use Rattle.lock.specs.Judged.{rule-size, size-rule}
 use Rattle.lock.specs.Valid.{Between}
 use Rattle.number.specs.Sizes.{mostNodes, mostThreads}
 use Rattle.number.specs.Tests.{all-hold, both-hold, each-holds, first-holds, second-holds}
-use Rattle.rows.specs.Places.{at-good, good-at, mark-rule, rule-mark}
+use Rattle.rows.specs.Places.{all-good, each-marked, mark-rule, rule-mark}
 use Rattle.rows.specs.Rows.{MarkAt, good as goodRecord, marked}
 use Rattle.schedule.specs.Proof.Events.{at-start}
 use Rattle.schedule.specs.Schedule.{GoodSchedule, eventRecord, eventsGood, eventsIn, good, headingGood, headingOf}
@@ -31,13 +31,11 @@ event-judged b i = rw (at-start b i, and-true (marked letterS letterE (drop (sta
 
 events-rule : (b : List ℕ) → eventsGood b ≡ true → (i : ℕ) → i < eventsIn b → MarkAt b (startOf i) letterS letterE
 unfolding eventsGood
-events-rule b h i l =
-    mark-rule b (startOf i) letterS letterE (sym (event-judged b i) ∙ good-at eventRecord (eventsIn b) i (drop width b) h l)
+events-rule b h i l = mark-rule b (startOf i) letterS letterE (each-marked eventRecord width (eventsIn b) b h i l)
 
 rule-events : (b : List ℕ) → ((i : ℕ) → i < eventsIn b → MarkAt b (startOf i) letterS letterE) → eventsGood b ≡ true
 unfolding eventsGood
-rule-events b h =
-    at-good eventRecord (eventsIn b) (drop width b) (λ i l. event-judged b i ∙ rule-mark b (startOf i) letterS letterE (h i l))
+rule-events b h = all-good eventRecord width (eventsIn b) b (λ i l. rule-mark b (startOf i) letterS letterE (h i l)) (λ i l. refl)
 
 -- ---- all of it
 

@@ -34,7 +34,7 @@ module _ (T K : ℕ) (es : List Event) where
       length-append (heading .bytes (sizes T K)) (laid eventRecord es)
       ∙ ap (λ (n : ℕ). width + n) (length-laid eventRecord event-lawful es)
 
-  many-written : eventsIn (scheduleOf T K es) ≡ length es
+  pub many-written : eventsIn (scheduleOf T K es) ≡ length es
   many-written = room (scheduleOf T K es) (length es) length-written
 
   pub heading-written : headingOf (scheduleOf T K es) ≡ sizes T K

@@ -55,7 +55,10 @@ module _ (s : State) (t : ThreadNo) (n : NodeNo) (sized : Sized s) where
 
   judges : AllReflect (tests s t n) (conditions s t n)
   judges =
-      (judges-state s sized, λ j1. (judges-outside noSuchThread (t .0) (s .shared .threads), λ j5. judges-line (valid-rule s sized (not-false _ j1)) (in-table (t .0) (s .shared .threads) j5)))
+      let T = s .shared .threads in (
+        judges-state s sized,
+        λ j1. (judges-outside noSuchThread (t .0) T, λ j5. judges-line (valid-rule s sized (not-false _ j1)) (in-table (t .0) T j5)),
+      )
 
   pub exactly-when : (m : ℕ) → (step s t n .answer ≡ m) ↔ First (conditions s t n) m
   exactly-when m = rw (answer-first s t n) (number-exactly (tests s t n) (conditions s t n) judges m)

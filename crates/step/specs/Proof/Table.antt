@@ -1,15 +1,11 @@
 -- The table of lines says what document 01's sentences say: one test, computed over the nineteen rows, and the laws that turn it into the facts of
 -- each line. Assumes nothing.
 use mathlib.Core.Bool.{Bool, true, not, _&&_}
-use mathlib.Core.List.{List, [], _∷_}
-use mathlib.Core.Path.{_≡_, subst}
-use Prim.Native.Nat.{ℕ, zero, suc, _+_, _-_, _≤_, _<_}
-use native.Mathlib.Nat.{le-of-suc-le-suc}
-use native.Mathlib.Omega.{arith}
+use mathlib.Core.List.{[], _∷_}
+use Prim.Native.Nat.{ℕ, _≤_}
 use lib.Dec.{T, eqb, leb, leb→le}
-use lib.ListN.{getD, length}
-use borrow.Author.Tests.{le-ltb}
-use Rattle.lines.specs.Lines.{lineAt, lines, offTable}
+use Rattle.lines.specs.Lines.{lineAt, lines}
+use Rattle.lines.specs.ByRow.{allFrom, of-line}
 use Rattle.lines.specs.declared.Follow.{Follow}
 use Rattle.lines.specs.declared.Follow.the-variants.{My, NoNode, Prev, Succ}
 use Rattle.lines.specs.declared.Line.{Line}
@@ -52,11 +48,6 @@ agrees l r = countsAt (counts (r .act)) l && followsAt (r .follow) l && waitsAt 
 abbrev staysInside : ℕ → Line → Bool
 staysInside l r = leb 11 (r .goes) && leb (r .goes) 29 && leb 11 (r .other) && leb (r .other) 29
 
--- a test of each row and its line number, over rows from line l on
-abbrev allFrom : (ℕ → Line → Bool) → ℕ → List Line → Bool
-allFrom test l [] = true
-allFrom test l (r ∷ rs) = test l r && allFrom test (suc l) rs
-
 all-agree : T (allFrom agrees 11 lines)
 all-agree = tt
 
@@ -64,23 +55,6 @@ all-inside : T (allFrom staysInside 11 lines)
 all-inside = tt
 
 -- ---- what the test says of each line
-
-both : (a b : Bool) → T (a && b) → T a × T b
-both true b h = (tt, h)
-
-module _ (test : ℕ → Line → Bool) where
-  row-at : (l : ℕ) (rs : List Line) → T (allFrom test l rs) → (j : ℕ) → j < length rs → T (test (l + j) (getD rs j offTable))
-  row-at l [] h j p = absurd (omega arith)
-  row-at l (r ∷ rs) h zero p = let e : l + 0 ≡ l = omega arith in rw e (both (test l r) _ h .0)
-  row-at l (r ∷ rs) h (suc j) p =
-      let e : l + suc j ≡ suc l + j = omega arith in
-      rw e (row-at (suc l) rs (both (test l r) _ h .1) j (le-of-suc-le-suc p))
-
-  of-line : T (allFrom test 11 lines) → (l : ℕ) → 11 ≤ l → l ≤ 29 → T (test l (lineAt l))
-  unfolding lineAt
-  of-line all l a b =
-      let e : 11 + (l - 11) ≡ l = omega arith in
-      rw (le-ltb l 11 a) (subst (λ (x : ℕ). T (test x (getD lines (l - 11) offTable))) e (row-at 11 lines all (l - 11) (omega arith)))
 
 three : (a b c : Bool) → T (a && b && c) → T a × T b × T c
 three true true c h = (tt, tt, h)
