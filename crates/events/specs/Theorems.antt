@@ -7,7 +7,7 @@ use mathlib.Core.Path.{_≡_}
 use Prim.Native.Nat.{ℕ, _+_, _≤_}
 use lib.Dec.{eqb}
 use lib.ListN.{length, take}
-use Rattle.lock.specs.Valid.{Between, Valid}
+use Rattle.lock.specs.Valid.{Between, SameSize, Valid}
 use Rattle.lock.specs.declared.State.{State}
 use Rattle.number.specs.Refused.{done, noPlaceLeft, noSuchThread}
 use Rattle.number.specs.declared.NodeNo.{NodeNo}
@@ -79,6 +79,10 @@ pub row-stop : (tool : Tool) (s : State) (es : List Event) (e : Event) (later : 
 row-stop tool s es e later on h =
     (Rows.stop-answers tool s es on e later h, Rows.stop-end tool s es on e later h, Rows.stop-length tool s es on e later h)
 
+-- An answer that stops is not 0.
+pub stop-not-done : (a : ℕ) → goesOn a ≡ false → a ≢ done
+stop-not-done = Answers.stop-not-done
+
 -- ---- our step, from a valid state
 
 -- To judge each state of a row again would change nothing: it is enough to judge the start.
@@ -91,8 +95,7 @@ pub row-valid : (s : State) (es : List Event) → Valid s → Valid (rowEnd adva
 row-valid = Judged.row-valid
 
 -- .. with the same T and K.
-pub row-size : (s : State) (es : List Event) → Valid s
-    → (rowEnd advance s es .shared .threads ≡ s .shared .threads) × (rowEnd advance s es .shared .nodes ≡ s .shared .nodes)
+pub row-size : (s : State) (es : List Event) → Valid s → SameSize s (rowEnd advance s es)
 row-size = Judged.row-size
 
 -- An event that stops leaves the state: the row ends where the events before it lead.
@@ -117,6 +120,6 @@ pub row-figure : (s : State) (es : List Event) → Valid s → FigureRun s es (r
 row-figure = Against.row-figure
 
 -- The figure and the table leave no second run.
-pub figure-run-only : (s : State) (es : List Event) (given : List ℕ) (s′ : State) → Valid s → FigureRun s es given s′
-    → (given ≡ rowAnswers advance s es) × (s′ ≡ rowEnd advance s es)
-figure-run-only s es given s′ = Against.figure-run-only
+pub figure-run-only : (s : State) (es : List Event) (told : List ℕ) (s′ : State) → Valid s → FigureRun s es told s′
+    → (told ≡ rowAnswers advance s es) × (s′ ≡ rowEnd advance s es)
+figure-run-only s es told s′ = Against.figure-run-only

@@ -58,6 +58,11 @@ pub record Sized (s : State) : Type 0 where
   pub nodes : length (s .node) ≡ tableSize
   pub threads : length (s .thread) ≡ tableSize
 
+-- The second state has the T and K of the first.
+pub record SameSize (s s′ : State) : Type 0 where
+  pub threads : s′ .shared .threads ≡ s .shared .threads
+  pub nodes : s′ .shared .nodes ≡ s .shared .nodes
+
 -- A state in the ranges, with 0 in every place past T or K.
 pub record Valid (s : State) : Type 0 where
   pub shared : SharedRange (s .shared)

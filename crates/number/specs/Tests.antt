@@ -30,6 +30,11 @@ pub either-holds : (a b : Bool) → (a || b) ≡ true → (a ≡ true → ⊥) �
 either-holds true b h f g = f refl
 either-holds false b h f g = g h
 
+-- A test that cannot hold fails.
+pub cannot-hold : (a : Bool) → (a ≡ true → ⊥) → a ≡ false
+cannot-hold true h = absurd (h refl)
+cannot-hold false h = refl
+
 -- ---- a list of tests
 
 -- all of the tests hold: a && b && ..

@@ -17,6 +17,25 @@ Bytes b = (i : ℕ) → getD b i 0 < 256
 abbrev pub over : List ℕ → List ℕ → List ℕ
 over vs o = vs ++ drop (length vs) o
 
+-- ---- "Each record begins with a two-byte mark in ASCII.": the letters of the marks
+abbrev pub letterL : ℕ
+letterL = 76
+
+abbrev pub letterH : ℕ
+letterH = 72
+
+abbrev pub letterN : ℕ
+letterN = 78
+
+abbrev pub letterT : ℕ
+letterT = 84
+
+abbrev pub letterS : ℕ
+letterS = 83
+
+abbrev pub letterE : ℕ
+letterE = 69
+
 -- the mark of these two bytes stands at a place of b
 abbrev pub MarkAt : List ℕ → ℕ → ℕ → ℕ → Type 0
 MarkAt b place first second = (getD b place 0 ≡ first) × (getD b (place + 1) 0 ≡ second)

@@ -20,8 +20,8 @@ RunTool = State → List ℕ → List ℕ → Ran
 -- Where nothing refuses the run, and the figure answers the schedule's events so, the executed are the zeros and the waited the waits among the answers.
 abbrev pub Counted : RunTool → Type 0
 Counted tool =
-    (s : State) (b out given : List ℕ) (s′ : State) → Accepted s b (length out) → FigureRun s (eventsOf b) given s′
-    → (tool s b out .report .executed ≡ executed given) × (tool s b out .report .waited ≡ waited given)
+    (s : State) (b out told : List ℕ) (s′ : State) → Accepted s b (length out) → FigureRun s (eventsOf b) told s′
+    → (tool s b out .report .executed ≡ executed told) × (tool s b out .report .waited ≡ waited told)
 
 -- ---- runs that invent a count
 

@@ -2,10 +2,11 @@
 -- then the unread part of the schedule. The answers are those of a row of steps (crate `events`). Assumes nothing.
 use mathlib.Core.Bool.{Bool, cond, not, _||_}
 use mathlib.Core.List.{List, [], _∷_}
-use Prim.Native.Nat.{ℕ, _+_}
+use Prim.Native.Nat.{ℕ, _+_, min}
 use lib.Dec.{eqb, leb, ltb}
 use lib.ListN.{drop, length}
-use Rattle.events.specs.Row.{executed, executes, goesOn, rowAnswers, rowEnd, stopping, waited, waits}
+use Rattle.events.specs.Events.{answers}
+use Rattle.events.specs.Row.{executed, executes, goesOn, rowAnswers, rowEnd, stopping, upToStop, waited, waits}
 use Rattle.lock.specs.Valid.{valid}
 use Rattle.lock.specs.declared.Shared.{Shared}
 use Rattle.lock.specs.declared.State.{State}
@@ -13,7 +14,7 @@ use Rattle.number.specs.Refused.{Refusal, _if_, badSchedule, badSize, badState,
 use Rattle.rows.specs.Rows.{over}
 use Rattle.schedule.specs.Schedule.{eventsIn, eventsOf, good, headingOf, startOf}
 use Rattle.schedule.specs.declared.Heading.{Heading}
-use Rattle.step.specs.Step.{advance}
+use Rattle.step.specs.Step.{advance, step}
 use Rattle.run.specs.declared.Ran.{Ran}
 use Rattle.run.specs.declared.Report.{Report}
 
@@ -56,6 +57,10 @@ tallied r a = reported (r .executed + cond (executes a) 1 0) (r .waited + cond (
 abbrev pub answersOf : State → List ℕ → List ℕ
 answersOf s b = rowAnswers advance s (eventsOf b)
 
+-- the answers of the steps, each of which judges its state, one after the other up to and including the stop; they are the same (`answers-of-steps`)
+abbrev pub stepAnswers : State → List ℕ → List ℕ
+stepAnswers s b = upToStop (answers step s (eventsOf b))
+
 -- "The run gives the state it ends in and reports ..", where nothing refuses it
 unfoldable pub ranOver : State → List ℕ → Ran
 ranOver s b = ran (reportOf (answersOf s b)) (rowEnd advance s (eventsOf b))
@@ -82,7 +87,7 @@ taken r = r .executed + r .waited + 1
 
 -- a place of b, or its end where the place lies past it
 abbrev pub upToEnd : ℕ → List ℕ → ℕ
-upToEnd place b = cond (leb place (length b)) place (length b)
+upToEnd place b = min place (length b)
 
 -- where the unread part begins: "what follows the stopping event, nothing if none stopped it, the whole of it after refusals 1 to 4"
 unfoldable pub unreadFrom : List ℕ → Report → ℕ

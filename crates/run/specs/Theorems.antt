@@ -6,11 +6,11 @@ use mathlib.Core.Logic.{_≢_, _⊎_, _↔_}
 use mathlib.Core.Path.{_≡_}
 use Prim.Native.Nat.{ℕ, _+_, _*_, _≤_, _<_}
 use lib.ListN.{drop, getD, length, take}
-use Rattle.events.specs.Events.{after, answers}
+use Rattle.events.specs.Events.{after}
 use Rattle.events.specs.FigureRun.{FigureRun}
-use Rattle.events.specs.Row.{goesOn, rowAnswers, rowEnd, stopping, upToStop}
+use Rattle.events.specs.Row.{goesOn, rowAnswers, rowEnd, stopping}
 use Rattle.events.specs.declared.Event.{Event}
-use Rattle.lock.specs.Valid.{Between, Sized, Valid}
+use Rattle.lock.specs.Valid.{Between, SameSize, Sized, Valid}
 use Rattle.lock.specs.declared.State.{State}
 use Rattle.number.specs.OneResult.{only}
 use Rattle.number.specs.Refused.{badState, done, noPlaceLeft, noSuchThread, tooShort}
@@ -23,7 +23,7 @@ use Rattle.run.specs.Proof.Refused
 use Rattle.run.specs.Proof.Runs
 use Rattle.run.specs.Proof.Split
 use Rattle.run.specs.Proof.Unread
-use Rattle.run.specs.Run.{answersOf, onward, ran, refusal, reportOf, reported, run, runBytes, taken, unread, unreadFrom}
+use Rattle.run.specs.Run.{answersOf, onward, ran, refusal, reportOf, reported, run, runBytes, stepAnswers, taken, unread, unreadFrom}
 use Rattle.run.specs.declared.Ran.{Ran}
 use Rattle.run.specs.declared.Report.{Report}
 pub use Rattle.run.specs.Demands.{Counted, Invented, RunTool, executedBy, inventsExecuted, inventsWaited, waitedBy}
@@ -65,7 +65,7 @@ module _ (s : State) (b out : List ℕ) where
   module _ (a : Accepted s b (length out)) where
     -- the answers of the steps one after the other, up to and including the stop
     abbrev given : List ℕ
-    given = upToStop (answers step s (eventsOf b))
+    given = stepAnswers s b
 
     -- The answers of the run's own definition are these: to judge each state again would change nothing.
     pub answers-of-steps : answersOf s b ≡ given
@@ -103,7 +103,7 @@ module _ (s : State) (b out : List ℕ) where
     run-valid = Runs.run-valid s b out a
 
     -- .. with the same T and K.
-    pub run-size : (run s b out .state .shared .threads ≡ s .shared .threads) × (run s b out .state .shared .nodes ≡ s .shared .nodes)
+    pub run-size : SameSize s (run s b out .state)
     run-size = Runs.run-size s b out a
 
 -- ---- the unread part, whatever the report says

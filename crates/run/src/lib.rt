@@ -49,7 +49,7 @@ fn refusal(s: State, schedule: &[u8], room: usize) -> u8
     let broken = !lock::valid(s);
     let bad = !schedule::good(schedule);
     let other = differ(s.shared, schedule::heading_of(schedule));
-    let short = room < schedule::how_many(schedule);
+    let short = room < schedule::events_in(schedule);
     let r4 = number::first(short, TOO_SHORT, DONE);
     let r3 = number::first(other, BAD_SIZE, r4);
     let r2 = number::first(bad, BAD_SCHEDULE, r3);
@@ -69,7 +69,7 @@ fn no_events(stop: u8) -> Report
     }
 }
 
-// The answer is that of an event that waited. No other function says which answers are.
+// The answer is that of an event that waited. No other function knows a wait's number.
 fn waits(answer: u8) -> bool
     ensures { λ r. ⌜ r ≡ isWait answer ⌝ }
 {
@@ -109,7 +109,7 @@ fn run_events(s: State, schedule: &[u8], answers: &mut [u8]) -> Ran
     ensures gives { λ r. ⌜ r ≡ ranOver s (now (schedule .entry)) ⌝ }
     ensures stores { λ r. ⌜ now (answers .exit) ≡ over (answersOf s (now (schedule .entry))) (now (answers .entry)) ⌝ }
 {
-    let n = schedule::how_many(schedule);
+    let n = schedule::events_in(schedule);
     let mut report = no_events(DONE);
     let mut state = s;
     let mut i = 0;

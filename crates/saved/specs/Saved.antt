@@ -19,21 +19,7 @@ use Rattle.number.specs.Numbers.{node, place}
 use Rattle.number.specs.First.{Condition, _given-when_}
 use Rattle.number.specs.Refused.{Refusal, _if_, badState, done, firstOf, tooShort}
 use Rattle.number.specs.Tests.{allHold}
-use Rattle.rows.specs.Rows.{Kind, MarkAt, allGood, laid, marked, over, values}
-
--- ---- "Each record begins with a two-byte mark in ASCII."
-
-abbrev pub letterL : ℕ
-letterL = 76
-
-abbrev pub letterH : ℕ
-letterH = 72
-
-abbrev pub letterN : ℕ
-letterN = 78
-
-abbrev pub letterT : ℕ
-letterT = 84
+use Rattle.rows.specs.Rows.{Kind, MarkAt, letterH, letterL, letterN, letterT, allGood, laid, marked, over, values}
 
 -- ---- "Numbers of four bytes have the lowest byte first."
 

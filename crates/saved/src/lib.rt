@@ -8,9 +8,9 @@ ghost use mathlib.Core.Path.{_≡_};
 ghost use lib.ListN.{drop, length};
 ghost use lib.Seq.{sets};
 ghost use Rattle.number.specs.Sizes.{mostNodes, mostThreads};
-ghost use Rattle.rows.specs.Rows.{allGood, good as goodRecord, marked as markedBy, over};
+ghost use Rattle.rows.specs.Rows.{allGood, good as goodRecord, letterL, marked as markedBy, over};
 ghost use Rattle.saved.specs.Inner.{Room, withNodes, withThreads};
-ghost use Rattle.saved.specs.Saved.{letterL, bytesOf, fourAt, fourBytes, headerBytes, headerIn, headerWidth, nodeBytes, nodeIn};
+ghost use Rattle.saved.specs.Saved.{bytesOf, fourAt, fourBytes, headerBytes, headerIn, headerWidth, nodeBytes, nodeIn};
 ghost use Rattle.saved.specs.Saved.{nodeRecord, nodeWidth, nodesBytes, read as readOf, saveNumber, savedGood, savedOver};
 ghost use Rattle.saved.specs.Saved.{size as sizeFor, stateIn, threadBytes, threadIn, threadRecord, threadWidth, threadsBytes};
 ghost use Rattle.saved.specs.Saved.{threadsPlace};
@@ -72,7 +72,7 @@ fn four_at(b: &[u8], at: usize) -> u32
     wide(b[at]) + 256 * wide(b[at + 1]) + 65_536 * wide(b[at + 2]) + 16_777_216 * wide(b[at + 3])
 }
 
-fn header_at(b: &[u8]) -> Shared
+fn header_in(b: &[u8]) -> Shared
     requires { ⌜ headerWidth ≤ length (now b) ⌝ }
     ensures { λ r. ⌜ r ≡ headerIn (now (b .entry)) ⌝ }
 {
@@ -93,7 +93,7 @@ fn header_at(b: &[u8]) -> Shared
     }
 }
 
-fn node_at(b: &[u8]) -> Node
+fn node_in(b: &[u8]) -> Node
     requires { ⌜ nodeWidth ≤ length (now b) ⌝ }
     ensures { λ r. ⌜ r ≡ nodeIn (now (b .entry)) ⌝ }
 {
@@ -103,7 +103,7 @@ fn node_at(b: &[u8]) -> Node
     }
 }
 
-fn thread_at(b: &[u8]) -> Thread
+fn thread_in(b: &[u8]) -> Thread
     requires { ⌜ threadWidth ≤ length (now b) ⌝ }
     ensures { λ r. ⌜ r ≡ threadIn (now (b .entry)) ⌝ }
 {
@@ -133,14 +133,14 @@ fn node_good(b: &[u8], nodes: u8) -> bool
     requires { ⌜ nodeWidth ≤ length (now b) ⌝ }
     ensures { λ r. ⌜ r ≡ goodRecord (nodeRecord nodes) (now (b .entry)) ⌝ }
 {
-    marked(b, b'N') & lock::node_in_range(nodes, node_at(b))
+    marked(b, b'N') & lock::node_in_range(nodes, node_in(b))
 }
 
 fn thread_good(b: &[u8], nodes: u8) -> bool
     requires { ⌜ threadWidth ≤ length (now b) ⌝ }
     ensures { λ r. ⌜ r ≡ goodRecord (threadRecord nodes) (now (b .entry)) ⌝ }
 {
-    marked(b, b'T') & lock::thread_in_range(nodes, thread_at(b))
+    marked(b, b'T') & lock::thread_in_range(nodes, thread_in(b))
 }
 
 // All records of nodes are good; b begins with them.
@@ -180,7 +180,7 @@ fn good(bytes: &[u8]) -> bool
     if bytes.len() < HEADER_WIDTH {
         return false;
     }
-    let sh = header_at(bytes);
+    let sh = header_in(bytes);
     if bytes.len() != size(sh.threads, sh.nodes) {
         return false;
     }
@@ -203,7 +203,7 @@ fn with_nodes(s: State, b: &[u8]) -> State
     let n = s.shared.nodes as usize;
     let mut i = 0;
     while i < n {
-        let v = node_at(rest(b, NODE_WIDTH * i));
+        let v = node_in(rest(b, NODE_WIDTH * i));
         filled.node[i] = v;
         i += 1;
     }
@@ -219,7 +219,7 @@ fn with_threads(s: State, b: &[u8]) -> State
     let n = s.shared.threads as usize;
     let mut i = 0;
     while i < n {
-        let v = thread_at(rest(b, THREAD_WIDTH * i));
+        let v = thread_in(rest(b, THREAD_WIDTH * i));
         filled.thread[i] = v;
         i += 1;
     }
@@ -231,7 +231,7 @@ fn state_in(b: &[u8]) -> State
     requires { ⌜ savedGood (now b) ≡ true ⌝ }
     ensures { λ r. ⌜ r ≡ stateIn (now (b .entry)) ⌝ }
 {
-    let sh = header_at(b);
+    let sh = header_in(b);
     let nodes = rest(b, HEADER_WIDTH);
     let threads = rest(b, threads_place(sh.nodes));
     let mut s = lock::zero_state();

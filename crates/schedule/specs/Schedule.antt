@@ -14,21 +14,11 @@ use Rattle.lock.specs.Valid.{Between}
 use Rattle.number.specs.Refused.{badSchedule, done}
 use Rattle.number.specs.Sizes.{mostNodes, mostThreads}
 use Rattle.number.specs.Tests.{allHold}
-use Rattle.rows.specs.Rows.{Kind, MarkAt, allGood, good as goodRecord, laid, values}
+use Rattle.rows.specs.Rows.{Kind, MarkAt, letterE, letterH, letterS, allGood, good as goodRecord, laid, values}
 use Rattle.schedule.specs.declared.Given.{Given}
 use Rattle.schedule.specs.declared.Heading.{Heading}
 
 -- ---- the records
-
--- the letters of the marks, in ASCII
-abbrev pub letterS : ℕ
-letterS = 83
-
-abbrev pub letterH : ℕ
-letterH = 72
-
-abbrev pub letterE : ℕ
-letterE = 69
 
 -- "Four bytes each"
 abbrev pub width : ℕ

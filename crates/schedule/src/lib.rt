@@ -53,7 +53,7 @@ pub fn heading_of(schedule: &[u8]) -> Heading
 }
 
 // How many events follow the heading.
-pub fn how_many(schedule: &[u8]) -> usize
+pub fn events_in(schedule: &[u8]) -> usize
     ensures { λ r. ⌜ r ≡ eventsIn (now (schedule .entry)) ⌝ }
 {
     let long = schedule.len();
@@ -76,7 +76,7 @@ fn no_event() -> Event
 pub fn event_at(schedule: &[u8], i: usize) -> Event
     ensures { λ r. ⌜ r ≡ eventAt (now (schedule .entry)) i ⌝ }
 {
-    if how_many(schedule) <= i {
+    if events_in(schedule) <= i {
         return no_event();
     }
     let at = WIDTH + WIDTH * i;
@@ -102,7 +102,7 @@ fn heading_good(schedule: &[u8]) -> bool
 fn events_good(schedule: &[u8]) -> bool
     ensures { λ r. ⌜ r ≡ eventsGood (now (schedule .entry)) ⌝ }
 {
-    let n = how_many(schedule);
+    let n = events_in(schedule);
     let mut ok = true;
     let mut i = 0;
     while i < n {

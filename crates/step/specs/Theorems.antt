@@ -4,7 +4,7 @@ use mathlib.Core.Logic.{_≢_, _↔_}
 use mathlib.Core.Path.{_≡_}
 use Rattle.lock.specs.Judged.{rule-valid}
 use Rattle.lock.specs.State.{nodeAt, threadAt}
-use Rattle.lock.specs.Valid.{Sized, Valid}
+use Rattle.lock.specs.Valid.{SameSize, Sized, Valid}
 use Rattle.lock.specs.declared.State.{State}
 use Rattle.number.specs.OneResult.{only}
 use Rattle.number.specs.Refused.{done}
@@ -62,8 +62,7 @@ unfolding step
 advance-is-step s t n rule = rw (rule-valid s rule)
 
 -- A step, accepted or refused, leaves T and K as they were.
-pub size-kept : (s : State) (t : ThreadNo) (n : NodeNo) → Valid s
-    → (step s t n .state .shared .threads ≡ s .shared .threads) × (step s t n .state .shared .nodes ≡ s .shared .nodes)
+pub size-kept : (s : State) (t : ThreadNo) (n : NodeNo) → Valid s → SameSize s (step s t n .state)
 size-kept = Against.size-kept
 
 -- An accepted step was possible.

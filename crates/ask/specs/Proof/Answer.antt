@@ -1,6 +1,5 @@
 -- What a question gives, case by case: its value in a valid state and refusal 1 in any other; the numbers of a chain question, and what it gives and
 -- writes by its number. Rests on FirstThat (crate `number`) and on the rule of a state. Assumes nothing.
-use mathlib.Core.Bool.{false, not-eq-not}
 use mathlib.Core.List.{List}
 use mathlib.Core.Logic.{_≢_, _↔_}
 use mathlib.Core.Path.{_≡_, refl}
@@ -13,6 +12,7 @@ use Rattle.lock.specs.Valid.{Between, Sized, Valid, valid}
 use Rattle.lock.specs.declared.State.{State}
 use Rattle.number.specs.FirstThat.{judges-short, none-holds, number-exactly}
 use Rattle.number.specs.Refused.{badState, done, wrongNode}
+use Rattle.number.specs.Tests.{cannot-hold}
 use Rattle.number.specs.declared.NodeNo.{NodeNo}
 use Rattle.rows.specs.Rows.{over}
 use Rattle.rows.specs.Stored.{over-later}
@@ -28,8 +28,7 @@ judged-valid s value rule = rw (rule-valid s rule)
 -- Any other state gives 1 and value 0.
 pub judged-refused : (s : State) (value : ℕ) → Sized s → ¬ Valid s → judged s value ≡ refused badState
 judged-refused s value sized broken =
-    let fails : valid s ≡ false = not-eq-not {a = valid s} {b = false} .0 (λ h. broken (valid-rule s sized h)) in
-    rw fails
+    rw (cannot-hold (valid s) (λ h. broken (valid-rule s sized h)))
 
 -- ---- the numbers of a chain question
 module _ (s : State) (from : NodeNo) (room : ℕ) where

@@ -61,8 +61,8 @@ row-figure =
     (λ s e es h rule. rw h (stops s e rule h))
 
 -- ---- and there is no other
-pub figure-run-only : {s s′ : State} {es : List Event} {given : List ℕ} → Valid s → FigureRun s es given s′
-    → (given ≡ rowAnswers advance s es) × (s′ ≡ rowEnd advance s es)
+pub figure-run-only : {s s′ : State} {es : List Event} {told : List ℕ} → Valid s → FigureRun s es told s′
+    → (told ≡ rowAnswers advance s es) × (s′ ≡ rowEnd advance s es)
 unfolding rowAnswers rowEnd
 figure-run-only rule no-events = (refl, refl)
 figure-run-only {s} rule (executed {s′} {e} p f run) =

@@ -7,7 +7,7 @@ use mathlib.Core.Path.{_≡_, ap, refl, subst, sym, _∙_}
 use Prim.Native.Nat.{ℕ}
 use native.Mathlib.Decide.{ℕ-discrete}
 use native.Mathlib.Omega.{arith}
-use Rattle.lock.specs.Valid.{Between, Valid}
+use Rattle.lock.specs.Valid.{Between, SameSize, Valid}
 use Rattle.lock.specs.declared.State.{State}
 use Rattle.number.specs.First.{_given-when_}
 use Rattle.number.specs.FirstThat.{first-behind}
@@ -88,17 +88,13 @@ judged-once = same-row advance Valid keeps-valid step (λ s e. is-step s (e .thr
 pub row-valid : (s : State) (es : List Event) → Valid s → Valid (rowEnd advance s es)
 row-valid = kept advance Valid keeps-valid
 
--- the second has the T and K of the first
-abbrev pub SameSize : State → State → Type 0
-SameSize s s′ = (s′ .shared .threads ≡ s .shared .threads) × (s′ .shared .nodes ≡ s .shared .nodes)
-
 pub row-size : (s : State) (es : List Event) → Valid s → SameSize s (rowEnd advance s es)
 row-size s es rule =
     kept advance (λ s′. Valid s′ × SameSize s s′)
     (λ s′ e p.
     let size = rw (← is-step s′ (e .thread) (e .node) (p .0)) at (size-kept s′ (e .thread) (e .node) (p .0)) in
-    (keeps-valid s′ e (p .0), (size .0 ∙ p .1 .0, size .1 ∙ p .1 .1)))
-    s es (rule, (refl, refl)) .1
+    (keeps-valid s′ e (p .0), record { threads = size .threads ∙ p .1 .threads; nodes = size .nodes ∙ p .1 .nodes }))
+    s es (rule, record { threads = refl; nodes = refl }) .1
 
 -- ---- rows that stop
 pub row-stop-stays : (s : State) (es : List Event) (e : Event) (later : List Event) → Valid s → stopping (rowAnswers advance s es) ≡ done

@@ -35,8 +35,8 @@ module _ (b : List ℕ) (t : ThreadNo) (n : NodeNo) (opens : read b .number ≡ 
 
     pub same-length : length (bytesOf after) ≡ length b
     same-length =
-        let (threads, nodes) = size-kept s t n (read-valid b opens) in
-        saved-size after after-valid .0 ∙ rw (threads, nodes) (sym (read-size b opens))
+        let size = size-kept s t n (read-valid b opens) in
+        saved-size after after-valid .0 ∙ rw (size .threads, size .nodes) (sym (read-size b opens))
 
     -- there is room for its bytes where those that were read stand ..
     pub room : Room after b

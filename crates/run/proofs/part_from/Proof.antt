@@ -6,7 +6,6 @@ use native.Mathlib.Omega.{arith}
 use lib.ListN.{drop, length, length-drop}
 use lib.Seq.{drop-length, take-all, take-nil}
 use borrow.Author.Needs.{needs}
-use borrow.Author.Tests.{le-leb, lt-leb}
 use Rattle.run.specs.Run.{upToEnd}
 use Rattle.run.proofs.part_from.Statement.{statement}
 use Rattle.run.proofs.part_from.Tie as tie
@@ -24,7 +23,7 @@ returns : tie.Need-returns
 returns c =
     let a = c .before .before .args in
     let b = a .schedule .now in
-    let there : upToEnd (a .at) b ≡ a .at = rw (le-leb (a .at) (length b) (omega arith)) in
+    let there : upToEnd (a .at) b ≡ a .at = omega arith in
     rw there (take-all (length b - a .at) (drop (a .at) b) (simp length-drop (omega arith)), λ i. (a .schedule .ptr .0, add-comm (a .at) (a .schedule .ptr .1) i))
 
 sub-result-2 : tie.Need-sub-result-2
@@ -40,7 +39,7 @@ returns-2 : tie.Need-returns-2
 returns-2 c =
     let a = c .before .before .args in
     let b = a .schedule .now in
-    let past : upToEnd (a .at) b ≡ length b = rw (lt-leb (a .at) (length b) (omega arith)) in
+    let past : upToEnd (a .at) b ≡ length b = omega arith in
     rw (past, drop-length b, take-nil) (refl, λ i. (a .schedule .ptr .0, add-comm (length b) (a .schedule .ptr .1) i))
 
 pub part-from-spec : {M : Type 1} → statement M

@@ -17,8 +17,8 @@ heading-of-requires c κs = search needs
 differ-requires : tie.Need-differ-requires
 differ-requires c κs = search needs
 
-how-many-requires : tie.Need-how-many-requires
-how-many-requires c κs = search needs
+events-in-requires : tie.Need-events-in-requires
+events-in-requires c κs = search needs
 
 first-requires : tie.Need-first-requires
 first-requires c κs = search needs
@@ -48,7 +48,7 @@ returns c =
       r2 .first3 .ensures,
       r3 .first2 .ensures,
       r4 .first .ensures,
-      short .how-many .ensures,
+      short .events-in .ensures,
       other .differ .ensures,
       heading .heading-of .ensures,
       bad .good2 .ensures,
@@ -63,7 +63,7 @@ refusal-spec =
     good-requires
     heading-of-requires
     differ-requires
-    how-many-requires
+    events-in-requires
     first-requires
     first-requires-2
     first-requires-3

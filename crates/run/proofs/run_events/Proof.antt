@@ -48,8 +48,8 @@ begin l = from l .args .s
 abbrev events : Loop → List Event
 events l = eventsOf (schedule l)
 
-many : (l : Loop) → length (events l) ≡ l .before .before .how-many .result
-many l = length-events (schedule l) ∙ sym (l .before .before .how-many .ensures)
+many : (l : Loop) → length (events l) ≡ l .before .before .events-in .result
+many l = length-events (schedule l) ∙ sym (l .before .before .events-in .ensures)
 
 -- there is a place for each event,
 room : (l : Loop) → length (events l) ≤ length (buffer l)
@@ -84,8 +84,8 @@ kept c =
     ∙ stored advance (begin l) (events l) (l .loop .inv .0) (next c) (buffer l) (omega (arith, many l, room l))
 
 -- ---- the needs
-how-many-requires : tie.Need-how-many-requires Inv-loop μ-loop
-how-many-requires c κs = search needs
+events-in-requires : tie.Need-events-in-requires Inv-loop μ-loop
+events-in-requires c κs = search needs
 
 no-events-requires : tie.Need-no-events-requires Inv-loop μ-loop
 no-events-requires c κs = search needs
@@ -159,7 +159,7 @@ run-events-spec =
     (tie.spec
     Inv-loop
     μ-loop
-    how-many-requires
+    events-in-requires
     no-events-requires
     loop-holds
     event-at-requires

@@ -4,7 +4,7 @@ use mathlib.Core.Path.{_≡_, sym, _∙_}
 use native.Mathlib.Omega.{arith}
 use lib.ListN.{length}
 use borrow.Author.Needs.{needs}
-use borrow.Author.Tests.{eq-eqb, le-leb, ne-eqb}
+use borrow.Author.Tests.{eq-eqb, ne-eqb}
 use Rattle.run.specs.Run.{unreadFrom, upToEnd}
 use Rattle.run.proofs.unread.Statement.{statement}
 use Rattle.run.proofs.unread.Tie as tie
@@ -16,7 +16,7 @@ returns : tie.Need-returns
 unfolding unreadFrom
 returns c =
     let b = c .before .before .before .before .args .schedule .now in
-    let at-end : upToEnd (length b) b ≡ length b = rw (le-leb (length b) (length b) (omega arith)) in
+    let at-end : upToEnd (length b) b ≡ length b = omega arith in
     rw (eq-eqb _ _ (c .before .if1 .taken)) (rw at-end at (c .part-from .ensures))
 
 before-events-requires : tie.Need-before-events-requires
@@ -31,7 +31,7 @@ returns-2 c =
     let stop = c .before .before in
     let b = stop .before .before .before .before .args .schedule .now in
     let low = sym (stop .before-events .ensures) ∙ c .before .if2 .taken in
-    let at-start : upToEnd 0 b ≡ 0 = rw (le-leb 0 (length b) (omega arith)) in
+    let at-start : upToEnd 0 b ≡ 0 = omega arith in
     rw (ne-eqb _ _ (stop .before .if1 .left), low) (rw at-start at (c .part-from2 .ensures))
 
 cast-taken : tie.Need-cast-taken

@@ -18,8 +18,8 @@ use Rattle.run.specs.declared.Ran.{Ran}
 
 pub run-counted : Counted run
 unfolding reportOf
-run-counted s b out given s′ a f =
-    let e = run-figure s b out a given s′ f .0 in
+run-counted s b out told s′ a f =
+    let e = run-figure s b out a told s′ f .0 in
     (ap (λ (r : Ran). r .report .executed) e, ap (λ (r : Ran). r .report .waited) e)
 
 -- by the figure's run that ours is

@@ -8,12 +8,12 @@ use native.Mathlib.Decide.{ℕ-discrete}
 use native.Mathlib.Omega.{arith}
 use lib.ListN.{getD, length, take}
 use borrow.Author.Tests.{ne-eqb}
-use Rattle.events.specs.Events.{after, answers}
+use Rattle.events.specs.Events.{after}
 use Rattle.events.specs.FigureRun.{FigureRun}
-use Rattle.events.specs.Row.{rowAnswers, rowEnd, stopping, upToStop}
+use Rattle.events.specs.Row.{rowAnswers, rowEnd, stopping}
 use Rattle.events.specs.Theorems.{figure-run-only, judged-once, row-counts, row-end, row-figure, row-length, row-of-steps, row-size, row-valid}
 use Rattle.events.specs.Theorems.{stopping-5-to-11}
-use Rattle.lock.specs.Valid.{Between, Sized, Valid}
+use Rattle.lock.specs.Valid.{Between, SameSize, Sized, Valid}
 use Rattle.lock.specs.declared.State.{State}
 use Rattle.number.specs.Refused.{badState, done, noPlaceLeft, noSuchThread, tooShort}
 use Rattle.rows.specs.Rows.{over}
@@ -23,7 +23,7 @@ use Rattle.schedule.specs.Theorems.{length-events}
 use Rattle.step.specs.Step.{advance, step}
 use Rattle.run.specs.Conditions.{Accepted, First, conditions}
 use Rattle.run.specs.Proof.Refused.{accepted, not-refused, refused-exactly}
-use Rattle.run.specs.Run.{answersOf, ran, ranOver, refusal, reportOf, reported, run, runBytes, taken}
+use Rattle.run.specs.Run.{answersOf, ran, ranOver, refusal, reportOf, reported, run, runBytes, stepAnswers, taken}
 use Rattle.run.specs.declared.Ran.{Ran}
 
 -- the same answers and the same end make the same result
@@ -65,7 +65,7 @@ module _ (s : State) (b out : List ℕ) where
     answers-by-step = judged-once s (eventsOf b) (a .state) .0
 
     abbrev given : List ℕ
-    given = upToStop (answers step s (eventsOf b))
+    given = stepAnswers s b
 
     pub answers-given : answersOf s b ≡ given
     answers-given = answers-by-step ∙ row-of-steps step s (eventsOf b)
@@ -95,7 +95,7 @@ module _ (s : State) (b out : List ℕ) where
     pub run-valid : Valid (run s b out .state)
     run-valid = rw state-of (row-valid s (eventsOf b) (a .state))
 
-    pub run-size : (run s b out .state .shared .threads ≡ s .shared .threads) × (run s b out .state .shared .nodes ≡ s .shared .nodes)
+    pub run-size : SameSize s (run s b out .state)
     run-size = rw state-of (row-size s (eventsOf b) (a .state))
 
     pub stop-of : run s b out .report .stop ≡ stopping (answersOf s b)

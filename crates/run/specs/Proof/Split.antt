@@ -75,7 +75,7 @@ module _ (T K : ℕ) (es later : List Event) (s : State) (out : List ℕ) (whole
     pub second-accepted : (out₂ : List ℕ) → length later ≤ length out₂ → Accepted s₁ b₂ (length out₂)
     second-accepted out₂ room₂ =
         let size = run-size s b₁ out₁ a₁ in
-        accepted-written T K later s₁ (length out₂) (run-valid s b₁ out₁ a₁) (size .0 ∙ threads-are) (size .1 ∙ nodes-are) (short .1) room₂
+        accepted-written T K later s₁ (length out₂) (run-valid s b₁ out₁ a₁) (size .threads ∙ threads-are) (size .nodes ∙ nodes-are) (short .1) room₂
 
     -- ---- the first does not stop
     module _ (on : run s b₁ out₁ .report .stop ≡ done) where

@@ -2,17 +2,17 @@
 -- leaves out is what follows the stopping event. Rests on Runs and on the theorems about schedules. Assumes nothing.
 use mathlib.Core.Bool.{Bool, cond, false, true}
 use mathlib.Core.List.{List, [], _∷_, _++_, append-assoc}
-use mathlib.Core.Logic.{_≢_}
+use mathlib.Core.Logic.{_≢_, by-cases}
 use mathlib.Core.Path.{_≡_, ap, refl, sym, _∙_}
 use Prim.Native.Nat.{ℕ, _≤_, _<_}
+use native.Mathlib.Decide.{decLe}
 use native.Mathlib.Omega.{arith}
-use lib.Dec.{eqb, leb}
+use lib.Dec.{eqb}
 use lib.ListN.{drop, drop-of-length-le, length, length-append}
 use lib.Seq.{drop-at, drop-length}
-use borrow.Author.Tests.{eq-eqb, le-leb, leb-false, leb-true, lt-leb, ne-eqb}
+use borrow.Author.Tests.{eq-eqb, le-leb, lt-leb, ne-eqb}
 use Rattle.events.specs.Row.{goesOn, rowAnswers, rowEnd, stopping}
-use Rattle.events.specs.Proof.Answers.{stop-not-done}
-use Rattle.events.specs.Theorems.{row-length-all, row-stop, stopping-append}
+use Rattle.events.specs.Theorems.{row-length-all, row-stop, stop-not-done, stopping-append}
 use Rattle.events.specs.declared.Event.{Event}
 use Rattle.lock.specs.Valid.{Between}
 use Rattle.lock.specs.declared.State.{State}
@@ -33,18 +33,15 @@ use Rattle.run.specs.declared.Report.{Report}
 
 -- Past a place that lies past the end there is what is past the end: nothing.
 to-end : (place : ℕ) (b : List ℕ) → drop (upToEnd place b) b ≡ drop place b
-to-end place b = go (leb place (length b)) refl
+to-end place b = by-cases (decLe place (length b)) inside outside
   where
-    go : (t : Bool) → leb place (length b) ≡ t → drop (cond t place (length b)) b ≡ drop place b
-    go true e = refl
-    go false e = drop-length b ∙ sym (drop-of-length-le b {i = place} (omega (arith, leb-false place (length b) e)))
+    inside : place ≤ length b → drop (upToEnd place b) b ≡ drop place b
+    inside h = let e : upToEnd place b ≡ place = omega arith in rw e
 
-within : (place : ℕ) (b : List ℕ) → upToEnd place b ≤ length b
-within place b = go (leb place (length b)) refl
-  where
-    go : (t : Bool) → leb place (length b) ≡ t → cond t place (length b) ≤ length b
-    go true e = leb-true place (length b) e
-    go false e = omega arith
+    outside : ¬ (place ≤ length b) → drop (upToEnd place b) b ≡ drop place b
+    outside h =
+        let e : upToEnd place b ≡ length b = omega arith in
+        rw (e, drop-length b) (sym (drop-of-length-le b {i = place} (omega arith)))
 
 -- ---- of any report
 module _ (b : List ℕ) (r : Report) where
@@ -67,7 +64,7 @@ module _ (b : List ℕ) (r : Report) where
   part-by : (t t′ : Bool) → cond t (length b) (cond t′ 0 (upToEnd (startOf (taken r)) b)) ≤ length b
   part-by true t′ = omega arith
   part-by false true = omega arith
-  part-by false false = within (startOf (taken r)) b
+  part-by false false = omega arith
 
   pub part : unreadFrom b r ≤ length b
   unfolding unreadFrom

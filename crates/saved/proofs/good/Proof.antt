@@ -16,15 +16,15 @@ returns c =
     let b = c .before .before .args .bytes .now in
     rw (ne-eqb (length b) (size (headerIn b .threads) (headerIn b .nodes)) (λ e. omega arith))
 
-header-at-requires : tie.Need-header-at-requires
-header-at-requires c κs = search needs
+header-in-requires : tie.Need-header-in-requires
+header-in-requires c κs = search needs
 
 size-requires : tie.Need-size-requires
 size-requires c κs = search needs
 
 -- the size that the header's numbers ask for
 asked : (c : tie.After-size) → let b = c .before .before .before .before .args .bytes .now in c .size .result ≡ size (headerIn b .threads) (headerIn b .nodes)
-asked c = c .size .ensures ∙ ap (λ (sh : Shared). size (sh .threads) (sh .nodes)) (c .before .header-at .ensures)
+asked c = c .size .ensures ∙ ap (λ (sh : Shared). size (sh .threads) (sh .nodes)) (c .before .header-in .ensures)
 
 returns-2 : tie.Need-returns-2
 unfolding goodBy
@@ -64,7 +64,7 @@ returns-3 c =
       c .before .before .before .before .rest2 .ensures .0,
       c .before .before .before .before .before .threads-place .ensures,
       c .before .before .before .before .before .before .rest .ensures .0,
-      found .before .header-at .ensures,
+      found .before .header-in .ensures,
     )
 
 pub good-spec : {M : Type 1} → statement M
@@ -72,7 +72,7 @@ good-spec =
     tie.close
     (tie.spec
     returns
-    header-at-requires
+    header-in-requires
     size-requires
     returns-2
     rest-requires

@@ -6,14 +6,14 @@ use Rattle.saved.proofs.node_good.Tie as tie
 marked-requires : tie.Need-marked-requires
 marked-requires c κs = search needs
 
-node-at-requires : tie.Need-node-at-requires
-node-at-requires c κs = search needs
+node-in-requires : tie.Need-node-in-requires
+node-in-requires c κs = search needs
 
 node-in-range-requires : tie.Need-node-in-range-requires
 node-in-range-requires c κs = search needs
 
 returns : tie.Need-returns
-returns c = simp (c .node-in-range .ensures, c .before .node-at .ensures, c .before .before .marked .ensures)
+returns c = simp (c .node-in-range .ensures, c .before .node-in .ensures, c .before .before .marked .ensures)
 
 pub node-good-spec : {M : Type 1} → statement M
-node-good-spec = tie.close (tie.spec marked-requires node-at-requires node-in-range-requires returns)
+node-good-spec = tie.close (tie.spec marked-requires node-in-requires node-in-range-requires returns)

@@ -57,8 +57,8 @@ loop-less : tie.Need-loop-less Inv-loop μ-loop
 loop-less c = search needs
 
 -- the table's length, as its type says it
-room : (c : tie.Start Inv-loop μ-loop) → length (c .args .t1 .node) ≡ tableSize
-room c = search length-mapped
+table-full : (c : tie.Start Inv-loop μ-loop) → length (c .args .t1 .node) ≡ tableSize
+table-full c = search length-mapped
 
 loop-again : tie.Need-loop-again Inv-loop μ-loop
 loop-again c =
@@ -66,7 +66,7 @@ loop-again c =
     let start = c .before .before .before .before .before .before .before .before .before .before in
     let s = start .args .t1 in
     let K = s .shared .nodes in
-    let more = put-more (nodeRecord K) (node-lawful K) (start .args .out .now) headerWidth (l .i) (s .node) zeroNode (omega (arith, room start)) in (
+    let more = put-more (nodeRecord K) (node-lawful K) (start .args .out .now) headerWidth (l .i) (s .node) zeroNode (omega (arith, table-full start)) in (
       search needs,
       c .before .before .put .ensures ∙ rw (l .inv .1, c .before .before .before .before .before .node-bytes .ensures) more,
       c .before .before .put .kept .0 ∙ l .inv .2,

@@ -60,8 +60,8 @@ loop-less : tie.Need-loop-less Inv-loop μ-loop
 loop-less c = search needs
 
 -- the table's length, as its type says it
-room : (c : tie.Start Inv-loop μ-loop) → length (c .args .t1 .thread) ≡ tableSize
-room c = search length-mapped
+table-full : (c : tie.Start Inv-loop μ-loop) → length (c .args .t1 .thread) ≡ tableSize
+table-full c = search length-mapped
 
 loop-again : tie.Need-loop-again Inv-loop μ-loop
 loop-again c =
@@ -70,7 +70,7 @@ loop-again c =
     let s = start .args .t1 in
     let K = s .shared .nodes in
     let from = c .before .before .before .before .before .before .before .before .before .threads-place .result in
-    let more = put-more (threadRecord K) (thread-lawful K) (start .args .out .now) from (l .i) (s .thread) zeroThread (omega (arith, room start)) in (
+    let more = put-more (threadRecord K) (thread-lawful K) (start .args .out .now) from (l .i) (s .thread) zeroThread (omega (arith, table-full start)) in (
       search needs,
       c .before .before .put .ensures ∙ rw (l .inv .1, c .before .before .before .before .before .thread-bytes .ensures) more,
       c .before .before .put .kept .0 ∙ l .inv .2,

@@ -24,13 +24,13 @@ record Fits (sh : Shared) (b : List ℕ) : Type 0 where
   nodes : sh .nodes ≤ mostNodes
   threads : sh .threads ≤ mostThreads
 
-fits : (c : tie.After-header-at) → Fits (c .header-at .result) (c .before .before .args .b .now)
+fits : (c : tie.After-header-in) → Fits (c .header-in .result) (c .before .before .args .b .now)
 fits c =
     let f = file (c .before .before) in
-    rw (c .header-at .ensures) (record { exact = f .exact; nodes = f .shared .nodes .to; threads = f .shared .threads .to })
+    rw (c .header-in .ensures) (record { exact = f .exact; nodes = f .shared .nodes .to; threads = f .shared .threads .to })
 
-header-at-requires : tie.Need-header-at-requires
-header-at-requires c κs = omega (arith, file (c .before) .exact)
+header-in-requires : tie.Need-header-in-requires
+header-in-requires c κs = omega (arith, file (c .before) .exact)
 
 rest-requires : tie.Need-rest-requires
 rest-requires c κs = omega (arith, file (c .before .before) .exact)
@@ -60,7 +60,7 @@ returns c =
       c .before .before .before .rest2 .ensures .0,
       c .before .before .before .before .threads-place .ensures,
       read .rest .ensures .0,
-      read .before .header-at .ensures,
+      read .before .header-in .ensures,
     )
     (filled (headerIn (read .before .before .before .args .b .now)) (read .before .before .before .args .b .now))
 
@@ -68,7 +68,7 @@ pub state-in-spec : {M : Type 1} → statement M
 state-in-spec =
     tie.close
     (tie.spec
-    header-at-requires
+    header-in-requires
     rest-requires
     threads-place-requires
     rest-requires-2

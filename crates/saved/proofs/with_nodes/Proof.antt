@@ -33,8 +33,8 @@ mul-rest c = search needs
 rest-requires : tie.Need-rest-requires Inv-loop μ-loop
 rest-requires c κs = search needs
 
-node-at-requires : tie.Need-node-at-requires Inv-loop μ-loop
-node-at-requires c κs = search needs
+node-in-requires : tie.Need-node-in-requires Inv-loop μ-loop
+node-in-requires c κs = search needs
 
 mul-v : tie.Need-mul-v Inv-loop μ-loop
 mul-v c = search needs
@@ -49,8 +49,8 @@ loop-less : tie.Need-loop-less Inv-loop μ-loop
 loop-less c = search needs
 
 -- the table's length, as its type says it
-room : (c : tie.Start Inv-loop μ-loop) → length (c .args .s .node) ≡ tableSize
-room c = search length-mapped
+table-full : (c : tie.Start Inv-loop μ-loop) → length (c .args .s .node) ≡ tableSize
+table-full c = search length-mapped
 
 loop-again : tie.Need-loop-again Inv-loop μ-loop
 loop-again c =
@@ -58,9 +58,9 @@ loop-again c =
     let start = c .before .before .before .before .before .before in
     let s = start .args .s in
     let b = start .args .b .now in
-    let more = read-more (nodeRecord (s .shared .nodes)) (l .i) b (s .node) zeroNode (omega (arith, room start)) in (
+    let more = read-more (nodeRecord (s .shared .nodes)) (l .i) b (s .node) zeroNode (omega (arith, table-full start)) in (
       search needs,
-      rw (l .inv .1, c .node-at .ensures, c .before .rest .ensures .0) (λ j. record { shared = s .shared; node = more j; thread = s .thread }),
+      rw (l .inv .1, c .node-in .ensures, c .before .rest .ensures .0) (λ j. record { shared = s .shared; node = more j; thread = s .thread }),
     )
 
 returns : tie.Need-returns Inv-loop μ-loop
@@ -78,7 +78,7 @@ with-nodes-spec =
     loop-holds
     mul-rest
     rest-requires
-    node-at-requires
+    node-in-requires
     mul-v
     element-set-from-v
     add-i

@@ -9,7 +9,8 @@ use borrow.Author.Tests.{eq-eqb, eqb-true}
 use Rattle.lock.specs.Judged.{node-rule, rule-node, rule-shared, rule-thread, shared-rule, thread-rule}
 use Rattle.number.specs.Tests.{all-hold, each-holds}
 use Rattle.rows.specs.Places.{all-good, each-in, each-marked, mark-rule, rule-mark}
-use Rattle.saved.specs.Saved.{SavedFile, letterH, letterL, letterN, letterT, goodBy, goodTests, headerIn, headerWidth, nodeRecord}
+use Rattle.rows.specs.Rows.{letterH, letterL, letterN, letterT}
+use Rattle.saved.specs.Saved.{SavedFile, goodBy, goodTests, headerIn, headerWidth, nodeRecord}
 use Rattle.saved.specs.Saved.{savedGood, threadRecord, threadsPlace}
 
 -- ---- the file

@@ -17,11 +17,11 @@ use Rattle.lock.specs.declared.State.{State}
 use Rattle.number.specs.Refused.{done}
 use Rattle.number.specs.Tests.{all-hold}
 use Rattle.rows.specs.Round.{good-laid, values-laid}
-use Rattle.rows.specs.Rows.{Kind, Lawful, allGood, allIn, laid, marked, values}
+use Rattle.rows.specs.Rows.{Kind, Lawful, allGood, allIn, laid, letterH, letterL, marked, values}
 use Rattle.saved.specs.Proof.Records.{header-lawful, node-lawful, thread-lawful}
 use Rattle.saved.specs.Proof.Size.{length-bytes, length-nodes}
 use Rattle.saved.specs.Proof.Tables.{front-in, front-zeros}
-use Rattle.saved.specs.Saved.{letterH, letterL, bytesOf, goodBy, goodTests, headerIn, headerWidth, nodeRecord, nodeWidth, nodesBytes, read}
+use Rattle.saved.specs.Saved.{bytesOf, goodBy, goodTests, headerIn, headerWidth, nodeRecord, nodeWidth, nodesBytes, read}
 use Rattle.saved.specs.Saved.{savedGood, stateBy, tableIn, threadRecord, threadsBytes, threadsPlace}
 
 -- ---- the records of the first n elements of a table

@@ -12,8 +12,8 @@ use Rattle.lock.specs.Judged.{shared-rule, thread-rule}
 use Rattle.lock.specs.Valid.{SharedRange, ThreadRange, sharedValid}
 use Rattle.lock.specs.declared.Shared.{Shared}
 use Rattle.rows.specs.Round.{begun, listed, listed-front}
-use Rattle.rows.specs.Rows.{Bytes, Lawful, marked}
-use Rattle.saved.specs.Saved.{letterH, letterL, letterN, letterT, fourAt, fourBytes, header, headerBytes, headerIn, headerWidth}
+use Rattle.rows.specs.Rows.{Bytes, Lawful, letterH, letterL, letterN, letterT, marked}
+use Rattle.saved.specs.Saved.{fourAt, fourBytes, header, headerBytes, headerIn, headerWidth}
 use Rattle.saved.specs.Saved.{nodeRecord, nodeWidth, threadRecord, threadWidth}
 
 -- ---- numbers of four bytes

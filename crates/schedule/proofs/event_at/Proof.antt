@@ -8,8 +8,8 @@ use Rattle.schedule.specs.Schedule.{eventsIn}
 use Rattle.schedule.proofs.event_at.Statement.{statement}
 use Rattle.schedule.proofs.event_at.Tie as tie
 
-how-many-requires : tie.Need-how-many-requires
-how-many-requires c κs = search needs
+events-in-requires : tie.Need-events-in-requires
+events-in-requires c κs = search needs
 
 no-event-requires : tie.Need-no-event-requires
 no-event-requires c κs = search needs
@@ -48,7 +48,7 @@ pub event-at-spec : {M : Type 1} → statement M
 event-at-spec =
     tie.close
     (tie.spec
-    how-many-requires
+    events-in-requires
     no-event-requires
     returns
     mul-at

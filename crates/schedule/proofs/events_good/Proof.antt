@@ -8,9 +8,9 @@ use lib.ListN.{drop}
 use borrow.Author.Needs.{needs}
 use Rattle.rows.specs.Loops.{judge-more}
 use Rattle.rows.specs.Places.{marked-at}
-use Rattle.rows.specs.Rows.{allGood}
+use Rattle.rows.specs.Rows.{allGood, letterE, letterS}
 use Rattle.schedule.specs.Proof.Judged.{event-judged}
-use Rattle.schedule.specs.Schedule.{eventRecord, eventsGood, eventsIn, letterE, letterS, startOf, width}
+use Rattle.schedule.specs.Schedule.{eventRecord, eventsGood, eventsIn, startOf, width}
 use Rattle.schedule.proofs.events_good.Statement.{statement}
 use Rattle.schedule.proofs.events_good.Tie as tie
 
@@ -20,8 +20,8 @@ Inv-loop schedule n ok₀ i₀ ok i = (i ≤ n) × (ok ≡ allGood eventRecord i
 abbrev μ-loop : tie.MeasureT-loop
 μ-loop schedule n ok₀ i₀ ok i = n - i
 
-how-many-requires : tie.Need-how-many-requires Inv-loop μ-loop
-how-many-requires c κs = search needs
+events-in-requires : tie.Need-events-in-requires Inv-loop μ-loop
+events-in-requires c κs = search needs
 
 loop-holds : tie.Need-loop-holds Inv-loop μ-loop
 unfolding allGood
@@ -68,7 +68,7 @@ events-good-spec =
     (tie.spec
     Inv-loop
     μ-loop
-    how-many-requires
+    events-in-requires
     loop-holds
     mul-at
     add-at

@@ -11,7 +11,7 @@ use lib.ListN.{length}
 use borrow.Author.Tests.{eq-eqb, eqb-false, eqb-true, le-leb, le-ltb, leb-true, lt-ltb, ltb-true, ne-eqb}
 use Rattle.events.specs.declared.Event.{Event}
 use Rattle.number.specs.Refused.{badSchedule, done}
-use Rattle.number.specs.Tests.{all-hold, each-holds}
+use Rattle.number.specs.Tests.{all-hold, cannot-hold, each-holds}
 use Rattle.schedule.specs.Proof.Judged.{passed, passed-rule, rule-passed}
 use Rattle.schedule.specs.Schedule.{GoodSchedule, NoPlace, eventAt, eventsIn, given, good, mostBytes, oneEvent}
 use Rattle.schedule.specs.Schedule.{startOf, startTests, startsEvent, stays, width}
@@ -77,11 +77,6 @@ module _ (e : Event) (next place : ℕ) where
   stays-by true false true w = absurd (⊎-elim true≢false (λ r. true≢false (r .1)) w)
   stays-by true false false w = refl
 
--- A test that cannot hold fails.
-fails : (t : Bool) → (t ≡ true → ⊥) → t ≡ false
-fails true h = absurd (h refl)
-fails false h = refl
-
 module _ (b : List ℕ) (place : ℕ) where
   abbrev TestsFail : Type 0
   TestsFail = (good b ≡ false) ⊎ ((startsEvent b place ≡ false) × (eqb place (length b) ≡ false))
@@ -99,13 +94,13 @@ module _ (b : List ℕ) (place : ℕ) where
       }))
 
   none-starts : good b ≡ true → NoPlace b place → startsEvent b place ≡ false
-  none-starts h nowhere = fails (startsEvent b place) (λ t. let s = test-start b place h t in nowhere .no-start _ (s .0) (s .1))
+  none-starts h nowhere = cannot-hold (startsEvent b place) (λ t. let s = test-start b place h t in nowhere .no-start _ (s .0) (s .1))
 
   so-fail : (¬ GoodSchedule b) ⊎ NoPlace b place → TestsFail
   so-fail w =
       by-cases (Bool-discrete (good b) true)
       (λ h. ⊎-elim (λ bad. absurd (bad (passed-rule b h))) (λ nowhere. inr (none-starts h nowhere, ne-eqb place (length b) (nowhere .no-end))) w)
-      (λ bad. inl (fails (good b) bad))
+      (λ bad. inl (cannot-hold (good b) bad))
 
   pub given-refused : (given b place .number ≡ badSchedule) ↔ ((¬ GoodSchedule b) ⊎ NoPlace b place)
   unfolding given

@@ -12,10 +12,10 @@ use Rattle.lock.specs.Valid.{Between}
 use Rattle.number.specs.Sizes.{mostNodes, mostThreads}
 use Rattle.number.specs.Tests.{all-hold, both-hold, each-holds, first-holds, second-holds}
 use Rattle.rows.specs.Places.{all-good, each-marked, mark-rule, rule-mark}
-use Rattle.rows.specs.Rows.{MarkAt, good as goodRecord, marked}
+use Rattle.rows.specs.Rows.{MarkAt, good as goodRecord, letterE, letterH, letterS, marked}
 use Rattle.schedule.specs.Proof.Events.{at-start}
 use Rattle.schedule.specs.Schedule.{GoodSchedule, eventRecord, eventsGood, eventsIn, good, headingGood, headingOf}
-use Rattle.schedule.specs.Schedule.{letterE, letterH, letterS, mostBytes, startOf, tests, width}
+use Rattle.schedule.specs.Schedule.{mostBytes, startOf, tests, width}
 
 -- ---- the heading
 
@@ -40,8 +40,8 @@ rule-events b h = all-good eventRecord width (eventsIn b) b (λ i l. rule-mark b
 -- ---- all of it
 
 -- A heading and n whole events have room for n events.
-pub room : (b : List ℕ) (n : ℕ) → length b ≡ startOf n → eventsIn b ≡ n
-room b n h = omega arith
+pub events-are : (b : List ℕ) (n : ℕ) → length b ≡ startOf n → eventsIn b ≡ n
+events-are b n h = omega arith
 
 -- what the test says of the length, of the heading and of the events
 pub record Passed (b : List ℕ) : Type 0 where
@@ -87,7 +87,7 @@ passed-rule b h =
 
 pub rule-passed : (b : List ℕ) → GoodSchedule b → good b ≡ true
 rule-passed b r =
-    let n : eventsIn b ≡ r .many = room b (r .many) (r .long) in
+    let n : eventsIn b ≡ r .many = events-are b (r .many) (r .long) in
     passes b
     (record {
       whole = omega arith;

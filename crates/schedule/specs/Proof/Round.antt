@@ -14,12 +14,12 @@ use Rattle.number.specs.Tests.{first-holds, second-holds}
 use Rattle.rows.specs.Loops.{length-laid}
 use Rattle.rows.specs.Places.{laid-past}
 use Rattle.rows.specs.Round.{bytes-past, good-laid, good-written, laid-values, values-laid}
-use Rattle.rows.specs.Rows.{Bytes, allIn, laid, marked}
+use Rattle.rows.specs.Rows.{Bytes, allIn, laid, letterH, letterS, marked}
 use Rattle.schedule.specs.Proof.Events.{at-start, length-events}
-use Rattle.schedule.specs.Proof.Judged.{passed, passes, room}
+use Rattle.schedule.specs.Proof.Judged.{passed, passes, events-are}
 use Rattle.schedule.specs.Proof.Records.{event-lawful, heading-lawful}
 use Rattle.schedule.specs.Schedule.{Written, eventRecord, eventsGood, eventsIn, eventsOf, good, heading, headingGood, headingOf}
-use Rattle.schedule.specs.Schedule.{letterH, letterS, mostBytes, scheduleOf, sizes, startOf, width}
+use Rattle.schedule.specs.Schedule.{mostBytes, scheduleOf, sizes, startOf, width}
 
 -- "Thread and node bytes of an event may hold any value": every event is in range.
 any-value : (es : List Event) → allIn (eventRecord .inRange) es ≡ true
@@ -35,7 +35,7 @@ module _ (T K : ℕ) (es : List Event) where
       ∙ ap (λ (n : ℕ). width + n) (length-laid eventRecord event-lawful es)
 
   pub many-written : eventsIn (scheduleOf T K es) ≡ length es
-  many-written = room (scheduleOf T K es) (length es) length-written
+  many-written = events-are (scheduleOf T K es) (length es) length-written
 
   pub heading-written : headingOf (scheduleOf T K es) ≡ sizes T K
   unfolding scheduleOf

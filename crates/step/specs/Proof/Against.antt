@@ -15,7 +15,7 @@ use Rattle.figure.specs.Figure.Figure.{line25, line26, line27, line28, line29}
 use Rattle.lines.specs.Lines.{lineAt}
 use Rattle.lock.specs.Judged.{in-table, valid-rule}
 use Rattle.lock.specs.State.{threadAt}
-use Rattle.lock.specs.Valid.{Between, Sized, Valid}
+use Rattle.lock.specs.Valid.{Between, SameSize, Sized, Valid}
 use Rattle.lock.specs.declared.State.{State}
 use Rattle.lock.specs.declared.Thread.{Thread}
 use Rattle.number.specs.Refused.{done}
@@ -59,7 +59,7 @@ module _ (s : State) (t : ThreadNo) (n : NodeNo) (rule : Valid s) (h : step s t 
   pub still-valid : Valid (step s t n .state)
   still-valid = rw now-at (after-valid s t n rule ok)
 
-  pub same-size : (step s t n .state .shared .threads ≡ s .shared .threads) × (step s t n .state .shared .nodes ≡ s .shared .nodes)
+  pub same-size : SameSize s (step s t n .state)
   same-size = rw now-at (after-size s t n rule ok)
 
 pub sound : Sound step
@@ -189,13 +189,12 @@ complete-same tool c s t n rule h =
 
 -- ---- accepted or refused, a step leaves T and K
 
-pub size-kept : (s : State) (t : ThreadNo) (n : NodeNo) → Valid s
-    → (step s t n .state .shared .threads ≡ s .shared .threads) × (step s t n .state .shared .nodes ≡ s .shared .nodes)
+pub size-kept : (s : State) (t : ThreadNo) (n : NodeNo) → Valid s → SameSize s (step s t n .state)
 size-kept s t n rule = go (ℕ-discrete (step s t n .answer) done)
   where
-    go : Dec (step s t n .answer ≡ done) → (step s t n .state .shared .threads ≡ s .shared .threads) × (step s t n .state .shared .nodes ≡ s .shared .nodes)
+    go : Dec (step s t n .answer ≡ done) → SameSize s (step s t n .state)
     go (yes h) = same-size s t n rule h
-    go (no h) = rw (unchanged s t n h) (refl, refl)
+    go (no h) = rw (unchanged s t n h) (record { threads = refl; nodes = refl })
 
 -- ---- the demands leave no second tool
 

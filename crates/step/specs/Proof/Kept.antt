@@ -21,7 +21,7 @@ use Rattle.lines.specs.declared.Window.{Window}
 use Rattle.lock.specs.Judged.{in-table}
 use Rattle.lock.specs.Laws.{length-set-nth, nth-set-other, nth-set-same}
 use Rattle.lock.specs.State.{_⟨flag≔_⟩, _⟨locked≔_⟩, _⟨low≔_⟩, _⟨tail≔_⟩, nth, setNth, threadAt, zeroNode, zeroThread}
-use Rattle.lock.specs.Valid.{Between, NodeRange, SharedRange, ThreadRange, Valid}
+use Rattle.lock.specs.Valid.{Between, NodeRange, SameSize, SharedRange, ThreadRange, Valid}
 use Rattle.lock.specs.declared.State.{State}
 use Rattle.lock.specs.declared.Thread.{Thread}
 use Rattle.number.specs.Numbers.{behind, isBottom, node, bottom, same, thread}
@@ -150,8 +150,8 @@ module _ (s : State) (t : ThreadNo) (n : NodeNo) (valid : Valid s) (a : Accepted
       let g = row-inside (v .line) (its-thread .line .from) (its-thread .line .to) in
       moved-kept w (lineAt (v .line)) n (g .0) (g .1) (c .node) (ready w (lineAt (v .line)) k n (a .clear)) in-range
 
-  pub after-size : (after s t v n .shared .threads ≡ s .shared .threads) × (after s t v n .shared .nodes ≡ s .shared .nodes)
-  after-size = (kept .threads, kept .nodes)
+  pub after-size : SameSize s (after s t v n)
+  after-size = record { threads = kept .threads; nodes = kept .nodes }
 
   pub after-valid : Valid (after s t v n)
   after-valid =

@@ -1,7 +1,7 @@
--- `saved::thread_at` meets its contract. Its numbers are single bytes, and what the call of `four_at` ensures. Assumes nothing.
+-- `saved::thread_in` meets its contract. Its numbers are single bytes, and what the call of `four_at` ensures. Assumes nothing.
 use borrow.Author.Needs.{needs}
-use Rattle.saved.proofs.thread_at.Statement.{statement}
-use Rattle.saved.proofs.thread_at.Tie as tie
+use Rattle.saved.proofs.thread_in.Statement.{statement}
+use Rattle.saved.proofs.thread_in.Tie as tie
 
 four-at-requires : tie.Need-four-at-requires
 four-at-requires c κs = search needs
@@ -24,8 +24,8 @@ shared-slice-read-t15 c = search needs
 returns : tie.Need-returns
 returns c = rw (c .before .before .before .before .before .four-at .ensures)
 
-pub thread-at-spec : {M : Type 1} → statement M
-thread-at-spec =
+pub thread-in-spec : {M : Type 1} → statement M
+thread-in-spec =
     tie.close
     (tie.spec
     four-at-requires

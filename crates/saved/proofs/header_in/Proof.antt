@@ -1,7 +1,7 @@
--- `saved::header_at` meets its contract. Its numbers are single bytes, and what the calls of `four_at` ensure. Assumes nothing.
+-- `saved::header_in` meets its contract. Its numbers are single bytes, and what the calls of `four_at` ensure. Assumes nothing.
 use borrow.Author.Needs.{needs}
-use Rattle.saved.proofs.header_at.Statement.{statement}
-use Rattle.saved.proofs.header_at.Tie as tie
+use Rattle.saved.proofs.header_in.Statement.{statement}
+use Rattle.saved.proofs.header_in.Tie as tie
 
 four-at-requires : tie.Need-four-at-requires
 four-at-requires c κs = search needs
@@ -40,8 +40,8 @@ returns c =
       used .before .before .before .four-at .ensures,
     )
 
-pub header-at-spec : {M : Type 1} → statement M
-header-at-spec =
+pub header-in-spec : {M : Type 1} → statement M
+header-in-spec =
     tie.close
     (tie.spec
     four-at-requires
