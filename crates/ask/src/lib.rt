@@ -72,14 +72,14 @@ fn is_counted(w: Wait) -> bool
 }
 
 // The thread is one of those that are looked for.
-fn is_sought(w: Sought, v: Thread) -> bool
-    ensures { λ r. ⌜ r ≡ isSought w v ⌝ }
+fn is_sought(sought: Sought, v: Thread) -> bool
+    ensures { λ r. ⌜ r ≡ isSought sought v ⌝ }
 {
     let row = lines::line_of(v.line);
     let wait = row.wait;
     let waiting = is_counted(wait);
     let holding = (FIRST_HELD <= v.line) & (v.line <= LAST_LINE);
-    match w {
+    match sought {
         Sought::Holding => holding,
         Sought::Waiting => waiting,
     }
@@ -92,16 +92,16 @@ fn one_if(test: bool) -> u8
 }
 
 // How many of the threads 1 to T are looked for, in a state that was judged before.
-fn how_many_threads(s: State, w: Sought) -> u8
+fn how_many_threads(s: State, sought: Sought) -> u8
     requires { ⌜ s .shared .threads ≤ mostThreads ⌝ }
-    ensures { λ r. ⌜ r ≡ howManyThreads (isSought w) s ⌝ }
+    ensures { λ r. ⌜ r ≡ howManyThreads (isSought sought) s ⌝ }
 {
     let threads = s.shared.threads as usize;
     let mut n: u8 = 0;
     let mut i = 0;
     while i < threads {
         let v = s.thread[i];
-        n += one_if(is_sought(w, v));
+        n += one_if(is_sought(sought, v));
         i += 1;
     }
     n

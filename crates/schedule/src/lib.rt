@@ -1,6 +1,6 @@
 // Schedules: which bytes are one, and what stands at a place of one. `good` and `given_at` take any bytes and judge them; the other
 // calls are total too, and are for a run, which judges its schedule once and then reads one event after the other.
-// Rests on `number` and `events`, and in specs/ on `lock` and `rows`.
+// Rests on `number`, `lock` and `events`, and in specs/ on `rows`.
 ghost use mathlib.Core.Path.{_≡_};
 ghost use lib.ListN.{getD};
 ghost use Rattle.schedule.specs.Schedule.{eventAt, eventsGood, eventsIn, headingGood, headingOf, noEvent, startsEvent};

@@ -11,10 +11,10 @@ use Rattle.ask.proofs.how_many_threads.Statement.{statement}
 use Rattle.ask.proofs.how_many_threads.Tie as tie
 
 abbrev Inv-loop : tie.InvT-loop
-Inv-loop w s threads n₀ i₀ n i = (i ≤ s .shared .threads) × (n ≡ howManyThreadsTo i (isSought w) s)
+Inv-loop sought s threads n₀ i₀ n i = (i ≤ s .shared .threads) × (n ≡ howManyThreadsTo i (isSought sought) s)
 
 abbrev μ-loop : tie.MeasureT-loop
-μ-loop w s threads n₀ i₀ n i = s .shared .threads - i
+μ-loop sought s threads n₀ i₀ n i = s .shared .threads - i
 
 cast-threads : tie.Need-cast-threads Inv-loop μ-loop
 cast-threads c = search needs
@@ -39,7 +39,7 @@ one-if-requires c κs = search needs
 counted : (c : tie.After-one-if Inv-loop μ-loop)
     → let l = c .before .before .before .before in
     let a = l .before .args in
-    l .loop .n + c .one-if .result ≡ howManyThreadsTo (l .loop .i + 1) (isSought (a .w)) (a .t1)
+    l .loop .n + c .one-if .result ≡ howManyThreadsTo (l .loop .i + 1) (isSought (a .sought)) (a .t1)
 unfolding howManyThreadsTo
 counted c = rw (add-one, c .one-if .ensures, c .before .is-sought .ensures, c .before .before .before .before .loop .inv .1)
 
@@ -47,7 +47,7 @@ add-n : tie.Need-add-n Inv-loop μ-loop
 add-n c =
     let l = c .before .before .before .before in
     let a = l .before .args in
-    omega (arith, counted c, threads-at-most (l .loop .i + 1) (isSought (a .w)) (a .t1))
+    omega (arith, counted c, threads-at-most (l .loop .i + 1) (isSought (a .sought)) (a .t1))
 
 add-i : tie.Need-add-i Inv-loop μ-loop
 add-i c = search needs
@@ -62,7 +62,7 @@ returns : tie.Need-returns Inv-loop μ-loop
 returns c =
     let a = c .before .before .args in
     let e : c .before .loop .i ≡ a .t1 .shared .threads = omega arith in
-    c .before .loop .inv .1 ∙ ap (λ t. howManyThreadsTo t (isSought (a .w)) (a .t1)) e
+    c .before .loop .inv .1 ∙ ap (λ t. howManyThreadsTo t (isSought (a .sought)) (a .t1)) e
 
 pub how-many-threads-spec : {M : Type 1} → statement M
 how-many-threads-spec =

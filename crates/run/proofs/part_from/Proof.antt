@@ -1,4 +1,5 @@
--- `run::part_from` meets its contract. The part up to the end is all that follows; where there are not so many bytes nothing follows. Assumes nothing.
+-- `run::part_from` meets its contract. The part up to the end is all that follows; where there are not so many bytes nothing follows, at the end. The part
+-- begins so many bytes behind the schedule's own beginning. Assumes nothing.
 use mathlib.Core.Path.{_≡_, refl}
 use Prim.Native.Nat.{_-_}
 use native.Mathlib.Nat.{add-comm}
@@ -24,7 +25,8 @@ returns c =
     let a = c .before .before .args in
     let b = a .schedule .now in
     let there : upToEnd (a .at) b ≡ a .at = omega arith in
-    rw there (take-all (length b - a .at) (drop (a .at) b) (simp length-drop (omega arith)), λ i. (a .schedule .ptr .0, add-comm (a .at) (a .schedule .ptr .1) i))
+    let all = take-all (length b - a .at) (drop (a .at) b) (simp length-drop (omega arith)) in
+    rw there (all, λ i. (a .schedule .ptr .0, add-comm (a .at) (a .schedule .ptr .1) i))
 
 sub-result-2 : tie.Need-sub-result-2
 sub-result-2 c = search needs

@@ -1,5 +1,5 @@
--- `saved::put` meets its contract. The loop's invariant: so many bytes of r are stored, from its first on. The measure is what is left of r. Rests on the laws of
--- stores (crate `rows`). Assumes nothing.
+-- `saved::put` meets its contract. The loop's invariant: the first `stored` bytes of r stand in out. The measure is what is left of r. Rests on the
+-- laws of stores (crate `rows`). Assumes nothing.
 use mathlib.Core.Path.{_≡_, refl, _∙_}
 use Prim.Native.Nat.{_-_, _≤_}
 use native.Mathlib.Omega.{arith}
