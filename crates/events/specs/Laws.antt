@@ -1,7 +1,7 @@
 -- The laws of a loop that takes a row of events one at a time, over any tool. The loop's invariant is `SoFar`: it holds at the start (`start`), an event
--- that goes on keeps it (`goes-on`), and from it the row is over where an event stops (`stops-here`) and where
--- no event is left (`at-the-end`). A loop that stores the answers in a buffer has `take i row ++ drop i buffer` there besides (`stored`, `stored-length`,
--- `stored-all`). Rests on Answers. Assumes nothing.
+-- that goes on keeps it (`goes-on`), and from it the row is over where an event stops (`stops-here`) and where no event is left (`at-the-end`). A loop
+-- that stores the answers in a buffer has `take i row ++ drop i buffer` there besides (`stored`, `stored-length`, `stored-all`). Rests on Answers.
+-- Assumes nothing.
 use mathlib.Core.Bool.{Bool, cond, false, true}
 use mathlib.Core.List.{List, [], _∷_, _++_}
 use mathlib.Core.Path.{_≡_, ap, refl, sym, _∙_}

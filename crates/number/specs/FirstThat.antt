@@ -23,7 +23,7 @@ AllReflect [] (c ∷ cs) = ⊥
 AllReflect (r ∷ rs) [] = ⊥
 AllReflect (r ∷ rs) (c ∷ cs) = Reflects r c × (r .applies ≡ false → AllReflect rs cs)
 
-pub first-of : (rs : List Refusal) (cs : List Condition) → AllReflect rs cs → First cs (firstOf rs)
+first-of : (rs : List Refusal) (cs : List Condition) → AllReflect rs cs → First cs (firstOf rs)
 first-of [] [] h = refl
 first-of (r ∷ rs) (c ∷ cs) h = go (λ e. first-of rs cs (h .1 e)) (r .applies) refl
   where
@@ -32,7 +32,7 @@ first-of (r ∷ rs) (c ∷ cs) h = go (λ e. first-of rs cs (h .1 e)) (r .applie
     go later false e = inr (h .0 .fails e, later e)
 
 -- no second number is the first that applies
-pub first-one : (cs : List Condition) (m m′ : ℕ) → First cs m → First cs m′ → m ≡ m′
+first-one : (cs : List Condition) (m m′ : ℕ) → First cs m → First cs m′ → m ≡ m′
 first-one [] m m′ h h′ = h ∙ sym h′
 first-one (c ∷ cs) m m′ (inl h) (inl h′) = h .1 ∙ sym (h′ .1)
 first-one (c ∷ cs) m m′ (inl h) (inr h′) = absurd (h′ .0 (h .0))
@@ -67,11 +67,11 @@ none-first [] h = refl
 none-first (c ∷ cs) h = inr (h .0, none-first cs (h .1))
 
 -- 0 is given exactly when none applies
-pub first-none : (cs : List Condition) → Rising done cs → First cs done ↔ NoneApply cs
+first-none : (cs : List Condition) → Rising done cs → First cs done ↔ NoneApply cs
 first-none cs r = ((λ f. not-below done cs done r f (omega arith) .1), none-first cs)
 
 -- a condition's number is given exactly when it applies and none before it does
-pub first-this : (m : ℕ) (before : List Condition) (c : Condition) (later : List Condition) → Rising m (before ++ c ∷ later)
+first-this : (m : ℕ) (before : List Condition) (c : Condition) (later : List Condition) → Rising m (before ++ c ∷ later)
     → First (before ++ c ∷ later) (c .number) ↔ (NoneApply before × c .applies)
 first-this m before c later r = (to m before r, from before)
   where

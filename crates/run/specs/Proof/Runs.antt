@@ -55,7 +55,7 @@ module _ (s : State) (b out : List ℕ) where
     state-of = ap (λ (r : Ran). r .state) gives
 
     -- of answers and an end that are the row's, it is the report and the state
-    pub gives-these : {told : List ℕ} {s′ : State} → told ≡ answersOf s b → s′ ≡ rowEnd advance s (eventsOf b)
+    gives-these : {told : List ℕ} {s′ : State} → told ≡ answersOf s b → s′ ≡ rowEnd advance s (eventsOf b)
         → (run s b out ≡ ran (reportOf told) s′) × (runBytes s b out ≡ over told out)
     unfolding ranOver
     gives-these g e = (gives ∙ sym (same-run g e), stores ∙ ap (λ (l : List ℕ). over l out) (sym g))

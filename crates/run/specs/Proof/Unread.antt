@@ -79,7 +79,7 @@ module _ (s : State) (b out : List ℕ) where
 
   module _ (a : Accepted s b (length out)) (off : run s b out .report .stop ≢ done) where
     -- what follows the events that were answered
-    pub of-stopped : unread b (run s b out .report) ≡ drop (startOf (length (answersOf s b))) b
+    of-stopped : unread b (run s b out .report) ≡ drop (startOf (length (answersOf s b))) b
     of-stopped =
         behind b (run s b out .report) (omega (arith, run-stops s b out a off .from))
         ∙ ap (λ (n : ℕ). drop (startOf n) b) (taken-all s b out a off)

@@ -88,7 +88,7 @@ module _ (sh : Shared) (b : List ℕ) (good : goodBy sh b ≡ true) where
         table-again (threadRecord K) (thread-lawful K) zeroThread T r (bytes-past (threadsPlace K) b bytes) (omega arith) (tests .1 .1 .1 .1 .0)
         ∙ take-all (threadWidth * T) r (omega arith)
 
-    pub behind-again : headerBytes sh ≡ take headerWidth b → bytesOf (stateBy sh b) ≡ b
+    behind-again : headerBytes sh ≡ take headerWidth b → bytesOf (stateBy sh b) ≡ b
     unfolding bytesOf stateBy
     behind-again h =
         (λ i. h i ++ nodes-again i ++ threads-again i)
