@@ -1,7 +1,8 @@
-// Saved states: `read` and `save`. A saved state is a header, a record for each node and a record for each thread, one after the
-// other. Readers work on the record at the start of a slice, and encoders give an array, so that neither knows a place: `rest` gives
-// the part of a slice from a place on, and `put` is the one loop that stores bytes. `put_state` also serves the step over a saved state
-// that is lent. Rests on `number`, `lock` and `rows`.
+// Saved states: `read` and `save`. In this order: places, the record at the start of a slice, judging, reading, the bytes of a record,
+// writing. A saved state is a header, a record for each node and a record for each thread, one after the other. Readers work on the
+// record at the start of a slice, and encoders give an array, so that neither knows a place: `rest` gives the part of a slice from a
+// place on, and `put` is the one loop that stores bytes. `put_state` also serves the step over a saved state that is lent. Rests on
+// `number`, `lock` and `rows`.
 ghost use Prim.Native.Nat.{_*_, _+_, _-_, _<_, _≤_};
 ghost use mathlib.Core.Bool.{true};
 ghost use mathlib.Core.Path.{_≡_};
