@@ -1,0 +1,95 @@
+-- A fresh state, made and saved: its two tests say what its two conditions say, and a fresh state is saved wherever there is room. Assumes nothing.
+use mathlib.Core.Bool.{Bool, false, not, true, true≢false}
+use mathlib.Core.List.{List}
+use mathlib.Core.Logic.{_≢_, _⊎_, _↔_, by-cases, inl, inr, ⊎-elim}
+use mathlib.Core.Path.{_≡_, ap, refl, sym, _∙_}
+use Prim.Native.Nat.{ℕ, _≤_}
+use native.Mathlib.Decide.{decLe}
+use native.Mathlib.Omega.{arith}
+use lib.ListN.{drop, length, take}
+use borrow.Author.Tests.{eq-eqb, ltb-false, ne-eqb, not-false, not-true}
+use Rattle.lock.specs.Fresh.{fresh, freshState, inSize, opened}
+use Rattle.lock.specs.Judged.{rule-size, rule-valid, size-rule}
+use Rattle.lock.specs.Theorems.{fresh-accepted, fresh-refused, fresh-valid}
+use Rattle.lock.specs.Valid.{Between, valid}
+use Rattle.lock.specs.declared.Opened.{Opened}
+use Rattle.number.specs.First.{First, _given-when_}
+use Rattle.number.specs.FirstThat.{AllReflect, Reflects, judges-short, none-holds, number-exactly}
+use Rattle.number.specs.Refused.{_if_, badSize, done}
+use Rattle.number.specs.Sizes.{mostNodes, mostThreads}
+use Rattle.rows.specs.Rows.{over}
+use Rattle.saved.specs.Saved.{bytesOf, read, saveNumber, savedOver, size}
+use Rattle.saved.specs.Theorems.{save-accepted, save-then-read}
+use Rattle.board.specs.Board.{freshBytes, freshConditions, freshNumber, freshRefusals}
+
+-- ---- "T or K outside 1 to 32"
+between : (least n most : ℕ) → Dec (Between least n most)
+between least n most =
+    by-cases (decLe least n)
+    (λ from. by-cases (decLe n most) (λ to. yes (record { from = from; to = to })) (λ off. no (λ b. off (b .to))))
+    (λ off. no (λ b. off (b .from)))
+
+module _ (T K : ℕ) where
+  judges-size : Reflects (badSize if not (inSize T K)) (badSize given-when ((¬ Between 1 T mostThreads) ⊎ (¬ Between 1 K mostNodes)))
+  judges-size = record {
+    holds = λ e. (by-cases (between 1 T mostThreads) (λ t. inr (λ k. true≢false (sym (rule-size T K t k) ∙ not-true _ e))) inl, refl);
+    fails = λ e. let inside = size-rule T K (not-false _ e) in ⊎-elim (λ off. off (inside .0)) (λ off. off (inside .1));
+  }
+
+  -- a fresh state is made exactly if T and K are 1 to 32
+  pub made-or-not : (fresh T K .number ≡ done → inSize T K ≡ true) × (fresh T K .number ≢ done → inSize T K ≡ false)
+  made-or-not = by-size (inSize T K) refl
+    where
+      by-size : (t : Bool) → inSize T K ≡ t → (fresh T K .number ≡ done → inSize T K ≡ true) × (fresh T K .number ≢ done → inSize T K ≡ false)
+      by-size true h = ((λ e. h), λ off. absurd (off (ap (λ (o : Opened). o .number) (fresh-accepted T K h))))
+      by-size false h = ((λ e. absurd (omega (arith, e, ap (λ (o : Opened). o .number) (fresh-refused T K h)))), λ off. h)
+
+  module _ (out : List ℕ) where
+    judges : AllReflect (freshRefusals T K out) (freshConditions T K out)
+    judges = (judges-size, λ j3. (judges-short (length out) (size T K), λ j4. tt))
+
+    pub exactly : (m : ℕ) → (freshNumber T K out ≡ m) ↔ First (freshConditions T K out) m
+    unfolding freshNumber
+    exactly = number-exactly (freshRefusals T K out) (freshConditions T K out) judges
+
+    -- ---- what is written
+    pub of-accepted : freshNumber T K out ≡ done → freshBytes T K out ≡ over (bytesOf (freshState T K)) out
+    unfolding freshBytes
+    of-accepted h = rw (eq-eqb _ _ h)
+
+    pub of-refused : freshNumber T K out ≢ done → freshBytes T K out ≡ out
+    unfolding freshBytes
+    of-refused h = rw (ne-eqb _ _ h)
+
+    -- an accepted call has T and K of 1 to 32, and room
+    pub accepted : freshNumber T K out ≡ done → (inSize T K ≡ true) × (size T K ≤ length out)
+    unfolding freshNumber
+    accepted h =
+        let off = none-holds (freshRefusals T K out) (omega arith) h in
+        (not-false _ (off .0), ltb-false _ _ (off .1 .0))
+
+    -- ---- the code's way: the size is judged where the state is made, and the room where it is saved
+    pub bad-size : inSize T K ≡ false → (freshNumber T K out ≡ badSize) × (freshBytes T K out ≡ out)
+    unfolding freshNumber
+    bad-size h = let number : freshNumber T K out ≡ badSize = rw h in (number, of-refused (λ z. omega (arith, number, z)))
+
+    module _ (h : inSize T K ≡ true) where
+      saves : valid (freshState T K) ≡ true
+      saves = rule-valid (freshState T K) (fresh-valid T K h)
+
+      pub number-saved : saveNumber (freshState T K) out ≡ freshNumber T K out
+      unfolding freshNumber saveNumber
+      number-saved = rw (h, saves)
+
+      pub bytes-saved : savedOver (freshState T K) out ≡ freshBytes T K out
+      unfolding freshBytes savedOver
+      bytes-saved = rw number-saved
+
+    -- ---- so what is written is read as the fresh state
+    pub reads-fresh : freshNumber T K out ≡ done
+        → (read (take (size T K) (freshBytes T K out)) ≡ opened done (freshState T K)) × (drop (size T K) (freshBytes T K out) ≡ drop (size T K) out)
+    reads-fresh h =
+        let inside = accepted h .0 in
+        let sized = fresh-valid T K inside .sized in
+        let saves = number-saved inside ∙ h in
+        rw (← bytes-saved inside) (save-then-read (freshState T K) out sized saves, save-accepted (freshState T K) out sized saves .1)
