@@ -2,7 +2,8 @@
 // the one node that its line follows. The table is the only place in code that knows what a line follows, waits for and goes on to.
 // Rests on `number` and `lock`.
 ghost use mathlib.Core.Path.{_≡_};
-ghost use Rattle.lines.specs.Lines.{followedBy, goesFirst, lineAt, nextLine, offTable};
+ghost use Rattle.lines.specs.Lines.{followedBy, goesFirst, lineAt, lines, nextLine, offTable};
+ghost use Rattle.lines.specs.Table.{rowPlace, rowSeen};
 use lock::Node;
 use lock::Shared;
 use lock::Thread;
@@ -67,8 +68,11 @@ pub struct Window {
     pub node: Node,
 }
 
+// The lines are nineteen.
+const ROWS: usize = 19;
+
 // Lines 11 to 29; beside each stands what document 01 says that it does, and which node it follows.
-const LINES: [Line; 19] = [
+const LINES: [Line; ROWS] = [
     Line {
         act: Act::Choose, // 11 | my := the event's node, put in use; entered + 1
         follow: Follow::NoNode, // none at 11
@@ -237,18 +241,38 @@ fn off_table() -> Line
     }
 }
 
+// The table, for a loop that makes it once and looks up a line at each turn.
+pub fn table() -> [Line; ROWS]
+    ensures { λ r. ⌜ r ≡ lines ⌝ }
+{
+    LINES
+}
+
+// The place of a line's row, line minus 11; it lies in the table whatever the number is.
+pub fn row_place(line: u8) -> usize
+    ensures { λ r. ⌜ r ≡ rowPlace line ⌝ }
+{
+    (line as usize + (ROWS - FIRST_LINE as usize)) % ROWS
+}
+
+// What is seen at a number, by the row at its place: no line's row where the number is no line.
+pub fn row_seen(line: u8, stood: Line) -> Line
+    ensures { λ r. ⌜ r ≡ rowSeen line stood ⌝ }
+{
+    if (FIRST_LINE <= line) & (line <= LAST_LINE) {
+        return stood;
+    }
+    off_table()
+}
+
 // The table's row of a line.
 pub fn line_of(line: u8) -> Line
     ensures { λ r. ⌜ r ≡ lineAt line ⌝ }
 {
-    if line < FIRST_LINE {
-        return off_table();
-    }
-    if LAST_LINE < line {
-        return off_table();
-    }
-    let i = (line - FIRST_LINE) as usize;
-    LINES[i]
+    let rows = table();
+    let at = row_place(line);
+    let stood = rows[at];
+    row_seen(line, stood)
 }
 
 // The node that a thread's line follows; 0 where it follows none.

@@ -4,6 +4,7 @@ ghost use Prim.Native.Nat.{_≤_};
 ghost use mathlib.Core.Path.{_≡_};
 ghost use Rattle.number.specs.Sizes.{mostThreads};
 ghost use Rattle.lock.specs.Fresh.{fresh as freshOf, freshShared, idleTo, inSize};
+ghost use Rattle.lock.specs.Places.{inTable, kept, placeOf, seen};
 ghost use Rattle.lock.specs.State.{_⟨node_≔_⟩, _⟨thread_≔_⟩, nodeAt, threadAt, zeroNode, zeroState, zeroThread};
 ghost use Rattle.lock.specs.Valid.{nodeInRange, nodeIsZero, nodesValid, pickUpTo, sharedValid, threadInRange, threadIsZero, threadsValid};
 ghost use Rattle.lock.specs.Valid.{valid as validOf};
@@ -107,65 +108,107 @@ pub fn zero_state() -> State
     }
 }
 
+// ---- a place of a table, for a program that reads and stores where the state stands and hands no state on
+
+// The number is 1 to 32.
+fn in_table(number: u8) -> bool
+    ensures { λ r. ⌜ r ≡ inTable number ⌝ }
+{
+    (1 <= number) & (number <= MOST_NODES)
+}
+
+// The place of a number; it lies in the table whatever the number is.
+fn place_of(number: u8) -> usize
+    ensures { λ r. ⌜ r ≡ placeOf number ⌝ }
+{
+    (number as usize + (MOST_NODES - 1) as usize) % MOST_NODES as usize
+}
+
+pub fn thread_place(t: ThreadNo) -> usize
+    ensures { λ r. ⌜ r ≡ placeOf (t .0) ⌝ }
+{
+    place_of(t.0)
+}
+
+pub fn node_place(k: NodeNo) -> usize
+    ensures { λ r. ⌜ r ≡ placeOf (k .0) ⌝ }
+{
+    place_of(k.0)
+}
+
+// What is seen at a number, by what stood at its place: zeros where the number is not in the table.
+pub fn thread_seen(t: ThreadNo, stood: Thread) -> Thread
+    ensures { λ r. ⌜ r ≡ seen (t .0) stood zeroThread ⌝ }
+{
+    if in_table(t.0) {
+        return stood;
+    }
+    zero_thread()
+}
+
+pub fn node_seen(k: NodeNo, stood: Node) -> Node
+    ensures { λ r. ⌜ r ≡ seen (k .0) stood zeroNode ⌝ }
+{
+    if in_table(k.0) {
+        return stood;
+    }
+    zero_node()
+}
+
+// What is stored at a number's place: the new value, or what stood there where the number is not in the table.
+pub fn thread_kept(t: ThreadNo, stood: Thread, v: Thread) -> Thread
+    ensures { λ r. ⌜ r ≡ kept (t .0) stood v ⌝ }
+{
+    if in_table(t.0) {
+        return v;
+    }
+    stood
+}
+
+pub fn node_kept(k: NodeNo, stood: Node, v: Node) -> Node
+    ensures { λ r. ⌜ r ≡ kept (k .0) stood v ⌝ }
+{
+    if in_table(k.0) {
+        return v;
+    }
+    stood
+}
+
 // ---- what stands at a number; zeros where there is no such place, and nothing is stored there
 
 pub fn thread_of(s: State, t: ThreadNo) -> Thread
     ensures { λ r. ⌜ r ≡ threadAt s t ⌝ }
 {
-    let k = t.0;
-    if k == 0 {
-        return zero_thread();
-    }
-    if MOST_THREADS < k {
-        return zero_thread();
-    }
-    let i = (k - 1) as usize;
-    s.thread[i]
+    let at = thread_place(t);
+    let stood = s.thread[at];
+    thread_seen(t, stood)
 }
 
 pub fn with_thread(s: State, t: ThreadNo, v: Thread) -> State
     ensures { λ r. ⌜ r ≡ s ⟨thread t ≔ v ⟩ ⌝ }
 {
-    let k = t.0;
-    if k == 0 {
-        return s;
-    }
-    if MOST_THREADS < k {
-        return s;
-    }
-    let i = (k - 1) as usize;
+    let at = thread_place(t);
+    let stood = s.thread[at];
     let mut changed = s;
-    changed.thread[i] = v;
+    changed.thread[at] = thread_kept(t, stood, v);
     changed
 }
 
 pub fn node_of(s: State, k: NodeNo) -> Node
     ensures { λ r. ⌜ r ≡ nodeAt s k ⌝ }
 {
-    let k = k.0;
-    if k == 0 {
-        return zero_node();
-    }
-    if MOST_NODES < k {
-        return zero_node();
-    }
-    let i = (k - 1) as usize;
-    s.node[i]
+    let at = node_place(k);
+    let stood = s.node[at];
+    node_seen(k, stood)
 }
 
 pub fn with_node(s: State, k: NodeNo, v: Node) -> State
     ensures { λ r. ⌜ r ≡ s ⟨node k ≔ v ⟩ ⌝ }
 {
-    let k = k.0;
-    if k == 0 {
-        return s;
-    }
-    if MOST_NODES < k {
-        return s;
-    }
-    let i = (k - 1) as usize;
+    let at = node_place(k);
+    let stood = s.node[at];
     let mut changed = s;
-    changed.node[i] = v;
+    changed.node[at] = node_kept(k, stood, v);
     changed
 }
 

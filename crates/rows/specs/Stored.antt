@@ -1,13 +1,13 @@
 -- Laws of stores: bytes that are stored one after the other, from the list library's `sets` (a list of values stored from a place on).
 -- By induction over what is stored. Assumes nothing.
-use mathlib.Core.List.{List, [], _∷_, _++_, append-nil}
+use mathlib.Core.List.{List, [], _∷_, _++_, append-assoc, append-nil}
 use mathlib.Core.Path.{_≡_, ap, sym, _∙_}
 use Prim.Native.Nat.{ℕ, suc, _+_, _-_, _≤_, _<_}
 use native.Mathlib.Nat.{le-of-lt, zero-add}
 use native.Mathlib.Numerals.{add-one}
 use native.Mathlib.Omega.{arith}
-use lib.ListN.{List·getD-append, drop, drop-of-length-le, getD, length, set, take}
-use lib.Seq.{append-snoc, drop-cons, getD-append-add, getD-drop, length-take-le, set-at, sets, sets-eq, take-suc}
+use lib.ListN.{List·getD-append, drop, drop-of-length-le, getD, length, length-append, set, take}
+use lib.Seq.{append-snoc, drop-at, drop-cons, getD-append-add, getD-drop, length-take-le, set-at, sets, sets-eq, take-at, take-suc}
 use Rattle.rows.specs.Rows.{over}
 
 -- Storing p and then q behind it is storing both.
@@ -21,6 +21,14 @@ pub sets-over : (vs o : List ℕ) → length vs ≤ length o → sets o 0 vs ≡
 sets-over vs o h =
     let z : 0 + length vs ≤ length o = omega arith in
     rw (sets-eq vs o 0 z, zero-add (length vs))
+
+-- What is stored over a part of its own length takes the place of that part.
+pub sets-part : (p q q′ r : List ℕ) (at : ℕ) → length p ≡ at → length q′ ≡ length q → sets (p ++ (q ++ r)) at q′ ≡ p ++ (q′ ++ r)
+sets-part p q q′ r at l e =
+    let room : at + length q′ ≤ length (p ++ (q ++ r)) = simp length-append (omega arith) in
+    let behind : length (p ++ q) ≡ at + length q′ = length-append p q ∙ omega arith in
+    rw (sets-eq q′ (p ++ (q ++ r)) at room, take-at p (q ++ r) at l, ← append-assoc p q r, drop-at (p ++ q) r (at + length q′) behind)
+    (append-assoc p q′ r)
 
 -- A turn of the loop that stores bytes: one byte more of r stands from `at` on.
 pub byte-more : (o : List ℕ) (at i : ℕ) (r : List ℕ) → i < length r → set (sets o at (take i r)) (at + i) (getD r i 0) ≡ sets o at (take (i + 1) r)

@@ -1,5 +1,5 @@
 // A run: the events of a schedule, one after the other, from a state that is judged once; and the unread part of its schedule.
-// Rests on `schedule` and `step`, and in specs/ on `events` and `rows`.
+// Rests on `schedule`, on `lock`, `lines` and `step`, whose window its loop opens, and in specs/ on `events` and `rows`.
 ghost use Prim.Native.Nat.{_<_, _≤_};
 ghost use mathlib.Core.Bool.{true};
 ghost use mathlib.Core.Path.{_≡_};
@@ -76,8 +76,8 @@ fn waits(answer: u8) -> bool
     answer == MUST_WAIT
 }
 
-// After 0 or a wait the run goes on.
-fn goes_on(answer: u8) -> bool
+// After 0 or a wait the run goes on. Public for other rows of steps.
+pub fn goes_on(answer: u8) -> bool
     ensures { λ r. ⌜ r ≡ goesOn answer ⌝ }
 {
     (answer == DONE) | waits(answer)
@@ -103,23 +103,39 @@ fn tally(r: Report, answer: u8) -> Report
 
 // ---- the run
 
-// The events of a good schedule, from a state that was judged before, with room for each answer.
+// The events of a good schedule, from a state that was judged before, with room for each answer. Each event works on a window over
+// the state where it stands, and stores it back: no state is handed on, so none is copied. A refused event stores back what it saw.
 fn run_events(s: State, schedule: &[u8], answers: &mut [u8]) -> Ran
     requires { ⌜ (good (now schedule) ≡ true) × (eventsIn (now schedule) ≤ length (now answers)) ⌝ }
     ensures gives { λ r. ⌜ r ≡ ranOver s (now (schedule .entry)) ⌝ }
     ensures stores { λ r. ⌜ now (answers .exit) ≡ over (answersOf s (now (schedule .entry))) (now (answers .entry)) ⌝ }
 {
     let n = schedule::events_in(schedule);
+    let rows = lines::table();
     let mut report = no_events(DONE);
     let mut state = s;
     let mut i = 0;
     while i < n {
         let e = schedule::event_at(schedule, i);
-        let r = step::advance(state, e.thread, e.node);
-        let answer = r.answer;
+        let at = lock::thread_place(e.thread);
+        let stood = state.thread[at];
+        let thread = lock::thread_seen(e.thread, stood);
+        let row_at = lines::row_place(thread.line);
+        let row = lines::row_seen(thread.line, rows[row_at]);
+        let follow = row.follow;
+        let k = lines::followed(follow, thread);
+        let node_at = lock::node_place(k);
+        let node_stood = state.node[node_at];
+        let w = step::opened(state.shared, thread, k, node_stood);
+        let told = step::tell(e.thread, w, row, k, e.node);
+        let answer = told.answer;
         answers[i] = answer;
         report = tally(report, answer);
-        state = r.state;
+        let after = told.window;
+        let shared = after.shared;
+        state.shared = shared;
+        state.node[node_at] = lock::node_kept(k, node_stood, after.node);
+        state.thread[at] = lock::thread_kept(e.thread, stood, after.thread);
         if !goes_on(answer) {
             return Ran { report, state };
         }

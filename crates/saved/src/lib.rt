@@ -1,16 +1,18 @@
-// Saved states: `read` and `save`. In this order: places, the record at the start of a slice, judging, reading, the bytes of a record,
-// writing. A saved state is a header, a record for each node and a record for each thread, one after the other. Readers work on the
-// record at the start of a slice, and encoders give an array, so that neither knows a place: `rest` gives the part of a slice from a
-// place on, and `put` is the one loop that stores bytes. `put_state` also serves the step over a saved state that is lent. Rests on
+// Saved states: `read` and `save`. In this order: places, the record at the start of a slice, judging, reading, reading a part, the
+// bytes of a record, writing, writing a part. A saved state is a header, a record for each node and a record for each thread, one after
+// the other. Readers work on the record at the start of a slice, and encoders give an array, so that neither knows a place: `rest`
+// gives the part of a slice from a place on, and `put` is the one loop that stores bytes. Parts serve the step over a saved state that
+// is lent: it judges the bytes by `good`, reads and writes only the header, one node and one thread, and holds no state. Rests on
 // `number`, `lock` and `rows`.
 ghost use Prim.Native.Nat.{_*_, _+_, _-_, _<_, _≤_};
 ghost use mathlib.Core.Bool.{true};
 ghost use mathlib.Core.Path.{_≡_};
 ghost use lib.ListN.{drop, length};
 ghost use lib.Seq.{sets};
+ghost use Rattle.lock.specs.State.{_⟨node_≔_⟩, _⟨shared≔_⟩, _⟨thread_≔_⟩, nodeAt, threadAt};
 ghost use Rattle.number.specs.Sizes.{mostNodes, mostThreads};
 ghost use Rattle.rows.specs.Rows.{allGood, good as goodRecord, letterL, marked as markedBy, over};
-ghost use Rattle.saved.specs.Inner.{Room, withNodes, withThreads};
+ghost use Rattle.saved.specs.Inner.{Holds, Room, noRecord, recordOver, withNodes, withThreads};
 ghost use Rattle.saved.specs.Saved.{bytesOf, fourAt, fourBytes, headerBytes, headerIn, headerWidth, nodeBytes, nodeIn};
 ghost use Rattle.saved.specs.Saved.{nodeRecord, nodeWidth, nodesBytes, read as readOf, saveNumber, savedGood, savedOver};
 ghost use Rattle.saved.specs.Saved.{size as sizeFor, stateIn, threadBytes, threadIn, threadRecord, threadWidth, threadsBytes};
@@ -25,6 +27,7 @@ use number::DONE;
 use number::NodeNo;
 use number::Place;
 use number::TOO_SHORT;
+use number::ThreadNo;
 
 // How many bytes each kind of record has.
 const HEADER_WIDTH: usize = 23;
@@ -175,7 +178,7 @@ fn threads_good(b: &[u8], nodes: u8, threads: u8) -> bool
 }
 
 // The bytes are a saved state: their length is exact, each record has its mark, and each number is in its range.
-fn good(bytes: &[u8]) -> bool
+pub fn good(bytes: &[u8]) -> bool
     ensures { λ r. ⌜ r ≡ savedGood (now (bytes .entry)) ⌝ }
 {
     if bytes.len() < HEADER_WIDTH {
@@ -257,6 +260,62 @@ pub fn read(bytes: &[u8]) -> Opened
         number: BAD_STATE,
         state,
     }
+}
+
+// ---- reading a part of a good file
+
+// There is no record k among n; records are counted from 1.
+fn no_record(n: u8, k: u8) -> bool
+    ensures { λ r. ⌜ r ≡ noRecord n k ⌝ }
+{
+    (k == 0) | (n < k)
+}
+
+// The shared numbers of the state that the bytes hold.
+pub fn shared_of(bytes: &[u8]) -> Shared
+    requires { ⌜ savedGood (now bytes) ≡ true ⌝ }
+    ensures { λ r. ⌜ r ≡ stateIn (now (bytes .entry)) .shared ⌝ }
+{
+    header_in(bytes)
+}
+
+// Node k of the state that the bytes hold; zeros where there is no such node.
+pub fn node_of(bytes: &[u8], k: NodeNo) -> Node
+    requires { ⌜ savedGood (now bytes) ≡ true ⌝ }
+    ensures { λ r. ⌜ r ≡ nodeAt (stateIn (now (bytes .entry))) k ⌝ }
+{
+    let sh = header_in(bytes);
+    let n = k.0;
+    if no_record(sh.nodes, n) {
+        return Node {
+            next: NodeNo(0),
+            locked: 0,
+        };
+    }
+    node_in(rest(bytes, HEADER_WIDTH + NODE_WIDTH * ((n - 1) as usize)))
+}
+
+// Thread t of the state that the bytes hold; zeros where there is no such thread.
+pub fn thread_of(bytes: &[u8], t: ThreadNo) -> Thread
+    requires { ⌜ savedGood (now bytes) ≡ true ⌝ }
+    ensures { λ r. ⌜ r ≡ threadAt (stateIn (now (bytes .entry))) t ⌝ }
+{
+    let sh = header_in(bytes);
+    let n = t.0;
+    if no_record(sh.threads, n) {
+        return Thread {
+            line: 0,
+            my: NodeNo(0),
+            prev: NodeNo(0),
+            succ: NodeNo(0),
+            nxmy: NodeNo(0),
+            slot: Place(0),
+        };
+    }
+    thread_in(rest(
+        bytes,
+        threads_place(sh.nodes) + THREAD_WIDTH * ((n - 1) as usize),
+    ))
 }
 
 // ---- the bytes of a record
@@ -397,4 +456,44 @@ pub fn save(s: State, out: &mut [u8]) -> u8
         put_state(s, out);
     }
     answer
+}
+
+// ---- writing a part of a good file
+
+// r over record k of the n records, each as long as r, that stand from a place on; nothing where there is no such record.
+fn put_record(out: &mut [u8], from: usize, n: u8, k: u8, r: &[u8])
+    requires { ⌜ from + length (now r) * n ≤ length (now out) ⌝ }
+    ensures { λ _. ⌜ now (out .exit) ≡ recordOver (now (out .entry)) from n k (now (r .entry)) ⌝ }
+{
+    if no_record(n, k) {
+        return;
+    }
+    put(out, from + r.len() * ((k - 1) as usize), r);
+}
+
+// The shared numbers, node k and thread t put back; every other byte stays as it is.
+pub fn put_window(
+    bytes: &mut [u8],
+    shared: Shared,
+    k: NodeNo,
+    node: Node,
+    t: ThreadNo,
+    thread: Thread,
+)
+    requires { ⌜ Holds (now bytes) shared ⌝ }
+    ensures { λ _. ⌜ now (bytes .exit)
+        ≡ bytesOf (stateIn (now (bytes .entry)) ⟨shared≔ shared ⟩ ⟨node k ≔ node ⟩ ⟨thread t ≔ thread ⟩) ⌝ }
+{
+    let header = header_bytes(shared);
+    let of_node = node_bytes(node);
+    let of_thread = thread_bytes(thread);
+    put(bytes, 0, &header);
+    put_record(bytes, HEADER_WIDTH, shared.nodes, k.0, &of_node);
+    put_record(
+        bytes,
+        threads_place(shared.nodes),
+        shared.threads,
+        t.0,
+        &of_thread,
+    );
 }

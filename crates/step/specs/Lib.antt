@@ -2,5 +2,6 @@
 pub mod Step
 pub mod Conditions
 pub mod Demands
+pub mod InPlace
 pub mod Theorems
 pub mod Proof

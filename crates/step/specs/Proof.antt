@@ -2,6 +2,7 @@
 -- ByLine: what holds of each line holds of all. Table: the table says what document 01's sentences say. Answer: a step's answer, taken apart.
 -- Leads: the executable definition against Figure 1, line by line. Judges: each test of a step against its condition.
 -- Exactly: the answer and the conditions. Kept: a valid state stays valid. Against: sound and complete. Stays: nothing else changes.
+-- InPlace: an event on a state that stays where it stands.
 pub mod ByLine
 pub mod Table
 pub mod Answer
@@ -11,3 +12,4 @@ pub mod Exactly
 pub mod Kept
 pub mod Against
 pub mod Stays
+pub mod InPlace

@@ -11,9 +11,11 @@ use Rattle.number.specs.Refused.{done}
 use Rattle.number.specs.declared.NodeNo.{NodeNo}
 use Rattle.number.specs.declared.ThreadNo.{ThreadNo}
 use Rattle.step.specs.Conditions.{Condition, Follows, NoneApply, conditions}
+use Rattle.step.specs.InPlace.{inPlace}
 use Rattle.step.specs.Proof.Answer
 use Rattle.step.specs.Proof.Against
 use Rattle.step.specs.Proof.Exactly
+use Rattle.step.specs.Proof.InPlace
 use Rattle.step.specs.Proof.Stays
 use Rattle.step.specs.Step.{advance, step}
 use Rattle.step.specs.declared.Stepped.{Stepped}
@@ -60,6 +62,10 @@ valid-kept = Against.valid-kept
 pub advance-is-step : (s : State) (t : ThreadNo) (n : NodeNo) → Valid s → advance s t n ≡ step s t n
 unfolding step
 advance-is-step s t n rule = rw (rule-valid s rule)
+
+-- An event on a state that stays where it stands, by which a run's loop takes its events, is the inner step too.
+pub in-place : (s : State) (t : ThreadNo) (n : NodeNo) → Sized s → inPlace s t n ≡ advance s t n
+in-place = InPlace.in-place
 
 -- A step, accepted or refused, leaves T and K as they were.
 pub size-kept : (s : State) (t : ThreadNo) (n : NodeNo) → Valid s → SameSize s (step s t n .state)

@@ -1,9 +1,15 @@
 // One step of the lock, by value. `advance` takes a state that was judged before; `step` judges it first, and is the call for
 // everyone else. Both answer a number of document 01 and give the state after the event. Rests on all the crates below it.
 ghost use mathlib.Core.Path.{_≡_};
+ghost use Rattle.step.specs.InPlace.{openedWith, toldTo};
 ghost use Rattle.step.specs.Step.{advance as advanceOf, closed, noThread, step as stepOf};
+use acts::Told;
+use lines::Line;
 use lines::Window;
+use lock::Node;
+use lock::Shared;
 use lock::State;
+use lock::Thread;
 use number::BAD_STATE;
 use number::DONE;
 use number::NO_SUCH_THREAD;
@@ -22,6 +28,36 @@ fn no_thread(threads: u8, t: ThreadNo) -> bool
 {
     (t.0 == 0) | (threads < t.0)
 }
+
+// ---- a window over a state that stays where it stands, for a row of events that hands no state on
+
+// The window of a thread whose line follows node k, by what stood at the node's place.
+pub fn opened(shared: Shared, thread: Thread, k: NodeNo, stood: Node) -> Window
+    ensures { λ r. ⌜ r ≡ openedWith shared thread k stood ⌝ }
+{
+    let node = lock::node_seen(k, stood);
+    Window {
+        shared,
+        thread,
+        node,
+    }
+}
+
+// One event of thread t on its window: 5, or what the line is told.
+pub fn tell(t: ThreadNo, w: Window, row: Line, k: NodeNo, n: NodeNo) -> Told
+    ensures { λ r. ⌜ r ≡ toldTo t w row k n ⌝ }
+{
+    let shared = w.shared;
+    if no_thread(shared.threads, t) {
+        return Told {
+            answer: NO_SUCH_THREAD,
+            window: w,
+        };
+    }
+    acts::tell(w, row, k, n)
+}
+
+// ---- the step
 
 // The state with a window put back: its shared numbers, node k and thread t.
 fn close(s: State, t: ThreadNo, k: NodeNo, w: Window) -> State

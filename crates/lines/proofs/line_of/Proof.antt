@@ -1,52 +1,38 @@
--- `lines::line_of` meets its contract. Off the table both sides are the row that is no line's; within it the constant is the specification's
--- list, element by element. Assumes nothing.
-use Prim.Native.Nat.{_-_}
-use native.Mathlib.Omega.{arith}
-use lib.ListN.{List·getD-eq-default}
-use borrow.Author.Tests.{le-ltb, lt-ltb}
-use Rattle.lines.specs.Lines.{lineAt, lines, offTable}
+-- `lines::line_of` meets its contract: what is seen at the line's place is the line's row. Rests on Table of specs/. Assumes nothing.
+use mathlib.Core.Path.{_∙_}
 use borrow.Author.Needs.{needs}
+use Rattle.lines.specs.Table.{row-is}
 use Rattle.lines.proofs.line_of.Statement.{statement}
 use Rattle.lines.proofs.line_of.Tie as tie
 
-off-table-requires : tie.Need-off-table-requires
-off-table-requires c κs = search needs
+table-requires : tie.Need-table-requires
+table-requires c κs = search needs
+
+row-place-requires : tie.Need-row-place-requires
+row-place-requires c κs = search needs
+
+mul-stood : tie.Need-mul-stood
+mul-stood c = search needs
+
+array-copy-out-stood : tie.Need-array-copy-out-stood
+array-copy-out-stood c = search needs
+
+row-seen-requires : tie.Need-row-seen-requires
+row-seen-requires c κs = search needs
 
 returns : tie.Need-returns
-unfolding lineAt
-returns c = rw (lt-ltb _ _ (c .before .if1 .taken)) (c .off-table .ensures)
-
-off-table-requires-2 : tie.Need-off-table-requires-2
-off-table-requires-2 c κs = search needs
-
-returns-2 : tie.Need-returns-2
-unfolding lineAt
-returns-2 c =
-    let n = c .before .before .before .args .line in
-    rw (le-ltb n 11 (c .before .before .if1 .left), List·getD-eq-default lines offTable {n = n - 11} (omega arith)) (c .off-table2 .ensures)
-
-cast-i : tie.Need-cast-i
-cast-i c = search needs
-
-mul-result : tie.Need-mul-result
-mul-result c = search needs
-
-array-copy-out-result : tie.Need-array-copy-out-result
-array-copy-out-result c = search needs
-
-returns-3 : tie.Need-returns-3
-unfolding lineAt
-returns-3 c = simp (le-ltb _ _ (c .before .before .if1 .left))
+returns c =
+    let placed = c .before .before in
+    let made = placed .before in
+    c .row-seen .ensures ∙ rw (placed .row-place .ensures, made .table .ensures) (row-is (made .before .args .line))
 
 pub line-of-spec : {M : Type 1} → statement M
 line-of-spec =
     tie.close
     (tie.spec
-    off-table-requires
-    returns
-    off-table-requires-2
-    returns-2
-    cast-i
-    mul-result
-    array-copy-out-result
-    returns-3)
+    table-requires
+    row-place-requires
+    mul-stood
+    array-copy-out-stood
+    row-seen-requires
+    returns)

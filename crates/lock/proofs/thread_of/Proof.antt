@@ -1,54 +1,34 @@
--- `lock::thread_of` meets its contract: zeros stand at 0 and past the table, and number t stands at place t - 1. Rests on Laws of specs/.
+-- `lock::thread_of` meets its contract: what is seen at the number's place stands at the number. Rests on Places of specs/.
 -- (`t1` is the state that is given.) Assumes nothing.
 use mathlib.Core.Path.{_≡_, _∙_}
-use native.Mathlib.Omega.{arith}
 use lib.ListN.{length}
 use borrow.Author.Needs.{needs}
-use Rattle.lock.specs.Laws.{length-mapped, nth-in, nth-none, nth-past}
-use Rattle.lock.specs.State.{tableSize}
+use Rattle.lock.specs.Laws.{length-mapped}
+use Rattle.lock.specs.Places.{seen-is}
+use Rattle.lock.specs.State.{tableSize, zeroThread}
 use Rattle.lock.proofs.thread_of.Statement.{statement}
 use Rattle.lock.proofs.thread_of.Tie as tie
 
-zero-thread-requires : tie.Need-zero-thread-requires
-zero-thread-requires c κs = search needs
+thread-place-requires : tie.Need-thread-place-requires
+thread-place-requires c κs = search needs
+
+mul-stood : tie.Need-mul-stood
+mul-stood c = search needs
+
+element-copy-out-stood : tie.Need-element-copy-out-stood
+element-copy-out-stood c = search needs
+
+thread-seen-requires : tie.Need-thread-seen-requires
+thread-seen-requires c κs = search needs
 
 returns : tie.Need-returns
-returns c = c .zero-thread .ensures ∙ nth-none _ _ _ (c .before .if1 .taken)
-
-zero-thread-requires-2 : tie.Need-zero-thread-requires-2
-zero-thread-requires-2 c κs = search needs
-
-returns-2 : tie.Need-returns-2
-returns-2 c =
-    let a = c .before .before .before .args in
+returns c =
+    let placed = c .before .before in
+    let a = placed .before .args in
     let h : length (a .t1 .thread) ≡ tableSize = search length-mapped in
-    c .zero-thread2 .ensures ∙ nth-past (a .t1 .thread) (a .t .0) _ (omega arith)
-
-sub-i : tie.Need-sub-i
-sub-i c = search needs
-
-cast-i : tie.Need-cast-i
-cast-i c = search needs
-
-mul-result : tie.Need-mul-result
-mul-result c = search needs
-
-element-copy-out-result : tie.Need-element-copy-out-result
-element-copy-out-result c = search needs
-
-returns-3 : tie.Need-returns-3
-returns-3 c = nth-in _ _ _ (c .before .before .if1 .left)
+    c .thread-seen .ensures ∙ rw (placed .thread-place .ensures) (seen-is (a .t1 .thread) zeroThread h (a .t .0))
 
 pub thread-of-spec : {M : Type 1} → statement M
 thread-of-spec =
     tie.close
-    (tie.spec
-    zero-thread-requires
-    returns
-    zero-thread-requires-2
-    returns-2
-    sub-i
-    cast-i
-    mul-result
-    element-copy-out-result
-    returns-3)
+    (tie.spec thread-place-requires mul-stood element-copy-out-stood thread-seen-requires returns)

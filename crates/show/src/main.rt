@@ -1,0 +1,57 @@
+// The printing program: it reads a schedule from standard input, and writes the text of its run from fresh, or `refused 2`.
+// It only reads, calls and writes: what is written is what `text` promises. Rests on `text`.
+ghost use lib.ListN.{length};
+ghost use mathlib.Core.Path.{_≡_};
+ghost use Rattle.io.specs.Counts.{Counts};
+use libc::STDIN_FILENO;
+use libc::STDOUT_FILENO;
+use number::DONE;
+use text::MOST_TEXT;
+
+// One byte more than a schedule may have, so that a longer input is seen to be longer.
+const MOST_READ: usize = 65_537;
+
+// Room for any text.
+fn room() -> [u8; MOST_TEXT]
+    ensures { λ r. ⌜ 606_235 ≡ length r ⌝ }
+{
+    [0; MOST_TEXT]
+}
+
+// Reads until the input ends or `input` is full, in pieces of any size, and gives how many bytes it read. Where a read fails, what
+// was read before is no schedule, and it gives 0, as of an empty input.
+fn read_all(input: &mut [u8]) -> usize
+    ensures { λ r. ⌜ Counts r (now (input .exit)) ⌝ }
+{
+    let mut length = 0;
+    while length < input.len() {
+        let got = libc::read(STDIN_FILENO, &mut input[length..]);
+        if got < 0 {
+            return 0;
+        }
+        let more = io::count(got, &input[length..]);
+        if more == 0 {
+            return length;
+        }
+        length += more;
+    }
+    length
+}
+
+// Writes the text of the schedule, by way of `out`, or that it is refused. `out` has room for any text, so that no good schedule is.
+fn print(schedule: &[u8], out: &mut [u8]) {
+    let written = text::text(schedule, out);
+    if written.number == DONE {
+        let n = written.length;
+        io::write_all(STDOUT_FILENO, &out[..n]);
+    } else {
+        io::write_all(STDOUT_FILENO, b"refused 2\n");
+    }
+}
+
+fn main() {
+    let mut input = [0u8; MOST_READ];
+    let n = read_all(&mut input);
+    let mut out = room();
+    print(&input[..n], &mut out);
+}
