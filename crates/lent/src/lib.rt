@@ -1,11 +1,10 @@
 // The step over a saved state that is lent: the bytes are changed where they stand, with the results of the step by value. It opens a
 // window over them, the shared numbers, one thread and the node that its line follows, and puts only these back. Rests on `saved` for
-// the bytes and on `acts` for what a line does.
+// the bytes, on `step` and on `acts` for what a line does.
 ghost use mathlib.Core.Bool.{true};
 ghost use mathlib.Core.Path.{_≡_};
 ghost use Rattle.lent.specs.Lent.{lentAnswer, lentBytes};
 ghost use Rattle.saved.specs.Saved.{savedGood};
-ghost use Rattle.step.specs.Step.{noThread};
 use lines::Window;
 use number::BAD_STATE;
 use number::DONE;
@@ -13,20 +12,13 @@ use number::NO_SUCH_THREAD;
 use number::NodeNo;
 use number::ThreadNo;
 
-// 5: the event's thread is not 1 to T.
-fn no_thread(threads: u8, t: ThreadNo) -> bool
-    ensures { λ r. ⌜ r ≡ noThread threads t ⌝ }
-{
-    (t.0 == 0) | (threads < t.0)
-}
-
 // One event of a saved state that was judged before: 5 to 12, the first that applies. A refusal changes no byte.
 fn advance_saved(bytes: &mut [u8], t: ThreadNo, n: NodeNo) -> u8
     requires { ⌜ savedGood (now bytes) ≡ true ⌝ }
     ensures { λ r. ⌜ (r ≡ lentAnswer (now (bytes .entry)) t n) × (now (bytes .exit) ≡ lentBytes (now (bytes .entry)) t n) ⌝ }
 {
     let shared = saved::shared_of(bytes);
-    if no_thread(shared.threads, t) {
+    if step::no_thread(shared.threads, t) {
         return NO_SUCH_THREAD;
     }
     let thread = saved::thread_of(bytes, t);

@@ -1,7 +1,7 @@
 // Saved states: `read` and `save`. In this order: places, the record at the start of a slice, judging, reading, reading a part, the
 // bytes of a record, writing, writing a part. A saved state is a header, a record for each node and a record for each thread, one after
 // the other. Readers work on the record at the start of a slice, and encoders give an array, so that neither knows a place: `rest`
-// gives the part of a slice from a place on, and `put` is the one loop that stores bytes. Parts serve the step over a saved state that
+// gives the part of a slice from a place on, and `rows::put` stores bytes from a place on. Parts serve the step over a saved state that
 // is lent: it judges the bytes by `good`, reads and writes only the header, one node and one thread, and holds no state. Rests on
 // `number`, `lock` and `rows`.
 ghost use Prim.Native.Nat.{_*_, _+_, _-_, _<_, _≤_};
@@ -393,18 +393,6 @@ fn thread_bytes(v: Thread) -> [u8; THREAD_WIDTH]
 
 // ---- writing
 
-// r in out from a place on.
-fn put(out: &mut [u8], at: usize, r: &[u8])
-    requires { ⌜ at + length (now r) ≤ length (now out) ⌝ }
-    ensures { λ _. ⌜ now (out .exit) ≡ sets (now (out .entry)) at (now (r .entry)) ⌝ }
-{
-    let mut stored = 0;
-    while stored < r.len() {
-        out[at + stored] = r[stored];
-        stored += 1;
-    }
-}
-
 // The records of the nodes of s, behind the header.
 fn put_nodes(s: State, out: &mut [u8])
     requires { ⌜ Room s (now out) ⌝ }
@@ -414,7 +402,7 @@ fn put_nodes(s: State, out: &mut [u8])
     let mut i = 0;
     while i < count {
         let r = node_bytes(s.node[i]);
-        put(out, HEADER_WIDTH + NODE_WIDTH * i, &r);
+        rows::put(out, HEADER_WIDTH + NODE_WIDTH * i, &r);
         i += 1;
     }
 }
@@ -429,7 +417,7 @@ fn put_threads(s: State, out: &mut [u8])
     let mut i = 0;
     while i < count {
         let r = thread_bytes(s.thread[i]);
-        put(out, from + THREAD_WIDTH * i, &r);
+        rows::put(out, from + THREAD_WIDTH * i, &r);
         i += 1;
     }
 }
@@ -440,7 +428,7 @@ pub fn put_state(s: State, out: &mut [u8])
     ensures { λ _. ⌜ now (out .exit) ≡ over (bytesOf s) (now (out .entry)) ⌝ }
 {
     let header = header_bytes(s.shared);
-    put(out, 0, &header);
+    rows::put(out, 0, &header);
     put_nodes(s, out);
     put_threads(s, out);
 }
@@ -468,7 +456,7 @@ fn put_record(out: &mut [u8], from: usize, n: u8, k: u8, r: &[u8])
     if no_record(n, k) {
         return;
     }
-    put(out, from + r.len() * ((k - 1) as usize), r);
+    rows::put(out, from + r.len() * ((k - 1) as usize), r);
 }
 
 // The shared numbers, node k and thread t put back; every other byte stays as it is.
@@ -487,7 +475,7 @@ pub fn put_window(
     let header = header_bytes(shared);
     let of_node = node_bytes(node);
     let of_thread = thread_bytes(thread);
-    put(bytes, 0, &header);
+    rows::put(bytes, 0, &header);
     put_record(bytes, HEADER_WIDTH, shared.nodes, k.0, &of_node);
     put_record(
         bytes,

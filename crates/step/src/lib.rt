@@ -23,7 +23,7 @@ pub struct Stepped {
 }
 
 // 5: the event's thread is not 1 to T.
-fn no_thread(threads: u8, t: ThreadNo) -> bool
+pub fn no_thread(threads: u8, t: ThreadNo) -> bool
     ensures { λ r. ⌜ r ≡ noThread threads t ⌝ }
 {
     (t.0 == 0) | (threads < t.0)

@@ -45,20 +45,6 @@ struct Line {
     length: usize,
 }
 
-// ---- bytes
-
-// r in out from a place on.
-fn put(out: &mut [u8], at: usize, r: &[u8])
-    requires { ⌜ at + length (now r) ≤ length (now out) ⌝ }
-    ensures { λ _. ⌜ now (out .exit) ≡ sets (now (out .entry)) at (now (r .entry)) ⌝ }
-{
-    let mut stored = 0;
-    while stored < r.len() {
-        out[at + stored] = r[stored];
-        stored += 1;
-    }
-}
-
 // ---- numbers
 
 // The decimal digits of n from a place on; gives the place behind them.
@@ -116,8 +102,7 @@ fn put_numbers(out: &mut [u8], at: usize, fields: &[u32]) -> usize
 fn line_before(s: State, e: Event) -> u8
     ensures { λ r. ⌜ r ≡ lineBefore s e ⌝ }
 {
-    let t = e.thread.0;
-    if (t == 0) | (s.shared.threads < t) {
+    if step::no_thread(s.shared.threads, e.thread) {
         return 0;
     }
     let v = lock::thread_of(s, e.thread);
@@ -160,7 +145,7 @@ fn end_line(r: Ran) -> Line
         waiting.value as u32,
     ];
     let mut bytes = [0u8; LINE_ROOM];
-    put(&mut bytes, 0, b"end ");
+    rows::put(&mut bytes, 0, b"end ");
     let length = put_numbers(&mut bytes, 4, &fields);
     Line { bytes, length }
 }
@@ -174,7 +159,7 @@ fn put_line(out: &mut [u8], at: usize, line: Line, write: bool) -> usize
     let bytes = line.bytes;
     let n = line.length;
     if write {
-        put(out, at, &bytes[..n]);
+        rows::put(out, at, &bytes[..n]);
     }
     at + n
 }
@@ -229,7 +214,7 @@ fn put_text(schedule: &[u8], out: &mut [u8], last: Line)
     requires { ⌜ TextFits (now schedule) last (now out) ⌝ }
     ensures { λ _. ⌜ now (out .exit) ≡ over (textOf (now (schedule .entry))) (now (out .entry)) ⌝ }
 {
-    put(out, 0, &HEADING);
+    rows::put(out, 0, &HEADING);
     let place = event_lines(schedule, out, true);
     put_line(out, place, last, true);
 }

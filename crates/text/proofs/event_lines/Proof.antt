@@ -126,9 +126,9 @@ returns c =
     let answered = shown stored .before in
     let off = sym (c .before .goes-on .ensures) ∙ not-true _ (c .if1 .taken) in
     let p =
-        stops (loop answered .loop .inv) (inside answered) (answered .before .event-at .result) (answered .advance .result)
-        (answered .before .event-at .ensures) (answered .advance .ensures) (stored .put-line .last .0) (stored .put-line .result)
-        (now-stored stored) (now-behind stored) off in
+    stops (loop answered .loop .inv) (inside answered) (answered .before .event-at .result) (answered .advance .result)
+    (answered .before .event-at .ensures) (answered .advance .ensures) (stored .put-line .last .0) (stored .put-line .result)
+    (now-stored stored) (now-behind stored) off in
     (p .behind, p .stored)
 
 add-i : tie.Need-add-i Inv-loop μ-loop

@@ -33,9 +33,9 @@ returns c =
     let b = begun .before .before .args .schedule .now in
     let answers : List ℕ = replicate 16_383 0 in
     let whole : ran .run .result ≡ ranOver (begin b) b =
-        ran .run .ensures .0
-        ∙ ap (λ (s : State). run s b answers) (begun .begin .ensures)
-        ∙ begun-run b (begun .before .before .pre) answers (omega (arith, length-replicate {A = ℕ} 16_383 0)) in
+    ran .run .ensures .0
+    ∙ ap (λ (s : State). run s b answers) (begun .begin .ensures)
+    ∙ begun-run b (begun .before .before .pre) answers (omega (arith, length-replicate {A = ℕ} 16_383 0)) in
     subst (λ (r : Ran). Held (c .end-line .result) (endLine r)) whole (c .end-line .ensures)
 
 pub last-line-spec : {M : Type 1} → statement M

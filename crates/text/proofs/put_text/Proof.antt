@@ -39,11 +39,11 @@ put-line-requires c κs =
     let start = put .before .before .before .before .before in
     let b = start .args .schedule .now in
     let place = lines .event-lines .ensures .0 in
-    let same = (lines .event-lines .kept .1 .0, put .put .kept .0) in
+    let kept = lines .event-lines .kept .1 .0 in
     record {
       within = start .pre .last .within;
       near = omega (arith, place, lines-near b (start .pre .schedule));
-      room = λ w. omega (arith, start .pre .room, text-length b, place, start .pre .last .long, same .0, same .1);
+      room = λ w. omega (arith, start .pre .room, text-length b, place, start .pre .last .long, kept, put .put .kept .0);
     }
 
 same-length : tie.Need-same-length

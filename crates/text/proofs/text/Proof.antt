@@ -77,7 +77,7 @@ returns-2 c =
     let lines = c .before .before .before .before .before in
     let good = judged lines in
     let less : length (from good .args .out .now) < length (textOf (schedule good)) =
-        omega (arith, c .before .if2 .taken, measured lines, ap length (unchanged lines)) in
+    omega (arith, c .before .if2 .taken, measured lines, ap length (unchanged lines)) in
     let l = short (schedule good) (from good .args .out .now) (is-good good) less in
     (c .refused2 .ensures ∙ sym (l .0), unchanged lines ∙ sym (l .1))
 
@@ -100,7 +100,7 @@ returns-3 c =
     let lines = tested .before .before .before .before in
     let good = judged lines in
     let enough : length (textOf (schedule good)) ≤ length (from good .args .out .now) =
-        omega (arith, tested .if2 .left, measured lines, ap length (unchanged lines)) in
+    omega (arith, tested .if2 .left, measured lines, ap length (unchanged lines)) in
     let l = fits (schedule good) (from good .args .out .now) (is-good good) enough in (
       ap (written done) (measured lines) ∙ sym (l .0),
       put .put-text .ensures ∙ ap (over (textOf (schedule good))) (unchanged lines) ∙ sym (l .1),

@@ -86,7 +86,7 @@ lines-cons n s e es r given = rw given
 -- from one event to the next, may help with that.
 pub lines-at-most : (most : ℕ) (Known : ℕ → State → List Event → Type 0)
     → ((n : ℕ) (s : State) (e : Event) (es : List Event) → Known n s (e ∷ es) → let r = advance s (e .thread) (e .node) in
-        (length (eventLine n s e r) ≤ most) × Known (n + 1) (r .state) es)
+    (length (eventLine n s e r) ≤ most) × Known (n + 1) (r .state) es)
     → (n : ℕ) (s : State) (es : List Event) → Known n s es → length (eventLines n s es) ≤ most * length es
 lines-at-most most Known turn n s [] known = rw (lines-none n s) (omega (arith, mul-zero most))
 lines-at-most most Known turn n s (e ∷ es) known =
@@ -140,10 +140,10 @@ held line room word first ns full fits begun long stored =
     let behind : line .length ≡ length whole = long ∙ sym (length-append word (numbers ns)) in
     let within : length whole ≤ lineRoom = omega (arith, length-append word (numbers ns), numbers-within ns) in
     let bytes : line .bytes ≡ sets room 0 whole =
-        stored
-        ∙ ap (λ (o : List ℕ). sets o (length word) (numbers ns)) begun
-        ∙ ap (λ (n : ℕ). sets (sets room 0 word) n (numbers ns)) (sym (zero-add (length word)))
-        ∙ sym (sets-append room 0 word (numbers ns)) in
+    stored
+    ∙ ap (λ (o : List ℕ). sets o (length word) (numbers ns)) begun
+    ∙ ap (λ (n : ℕ). sets (sets room 0 word) n (numbers ns)) (sym (zero-add (length word)))
+    ∙ sym (sets-append room 0 word (numbers ns)) in
     record {
       within = omega arith;
       long = behind;

@@ -1,14 +1,14 @@
--- `saved::put` meets its contract. The loop's invariant: the first `stored` bytes of r stand in out. The measure is what is left of r. Rests on the
--- laws of stores (crate `rows`). Assumes nothing.
+-- `rows::put` meets its contract. The loop's invariant: the first `stored` bytes of r stand in out. The measure is what is left of r. Rests on the
+-- laws of stores (specs/Stored). Assumes nothing.
 use mathlib.Core.Path.{_≡_, refl, _∙_}
 use Prim.Native.Nat.{_-_, _≤_}
 use native.Mathlib.Omega.{arith}
 use lib.ListN.{length, length-set, take}
 use lib.Seq.{sets, take-all}
 use borrow.Author.Needs.{needs}
 use Rattle.rows.specs.Stored.{byte-more}
-use Rattle.saved.proofs.put.Statement.{statement}
-use Rattle.saved.proofs.put.Tie as tie
+use Rattle.rows.proofs.put.Statement.{statement}
+use Rattle.rows.proofs.put.Tie as tie
 
 abbrev Inv-loop : tie.InvT-loop
 Inv-loop out₀ at r stored₀ out stored = (stored ≤ length r) × (out ≡ sets out₀ at (take stored r)) × (length out ≡ length out₀)
