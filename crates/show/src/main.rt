@@ -23,26 +23,26 @@ fn room() -> [u8; MOST_TEXT]
 fn read_all(input: &mut [u8]) -> usize
     ensures { λ r. ⌜ Counts r (now (input .exit)) ⌝ }
 {
-    let mut length = 0;
-    while length < input.len() {
-        let got = libc::read(STDIN_FILENO, &mut input[length..]);
+    let mut filled = 0;
+    while filled < input.len() {
+        let got = libc::read(STDIN_FILENO, &mut input[filled..]);
         if got < 0 {
             return 0;
         }
-        let more = io::count(got, &input[length..]);
+        let more = io::count(got, &input[filled..]);
         if more == 0 {
-            return length;
+            return filled;
         }
-        length += more;
+        filled += more;
     }
-    length
+    filled
 }
 
 // Writes the text of the schedule, by way of `out`, or that it is refused. `out` has room for any text, so that no good schedule is.
 fn print(schedule: &[u8], out: &mut [u8]) {
     let written = text::text(schedule, out);
     if written.number == DONE {
-        let n = written.length;
+        let n = written.size;
         io::write_all(STDOUT_FILENO, &out[..n]);
     } else {
         io::write_all(STDOUT_FILENO, b"refused 2\n");

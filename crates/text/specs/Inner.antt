@@ -15,9 +15,9 @@ lineRoom = 88
 
 -- The line's bytes are these.
 pub record Held (line : Line) (bytes : List ℕ) : Type 0 where
-  pub within : line .length ≤ lineRoom
-  pub long : line .length ≡ length bytes
-  pub same : take (line .length) (line .bytes) ≡ bytes
+  pub within : line .size ≤ lineRoom
+  pub long : line .size ≡ length bytes
+  pub same : take (line .size) (line .bytes) ≡ bytes
 
 -- bytes stored from a place on, where they are to be written; else nothing is stored
 unfoldable pub placed : Bool → List ℕ → ℕ → List ℕ → List ℕ
@@ -29,9 +29,9 @@ farthest = 40 + lineRoom * 16_383
 
 -- There is room for a line from a place on, where it is to be written.
 pub record LineFits (write : Bool) (line : Line) (at : ℕ) (out : List ℕ) : Type 0 where
-  pub within : line .length ≤ lineRoom
+  pub within : line .size ≤ lineRoom
   pub near : at ≤ farthest
-  pub room : write ≡ true → at + line .length ≤ length out
+  pub room : write ≡ true → at + line .size ≤ length out
 
 -- The schedule is good, and there is room for the lines of its events behind the heading, where they are to be written.
 pub record LinesFit (write : Bool) (b out : List ℕ) : Type 0 where

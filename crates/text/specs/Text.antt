@@ -107,9 +107,9 @@ unfoldable pub textNumber : List ℕ → ℕ → ℕ
 textNumber b room = firstOf (textRefusals b room)
 
 abbrev pub written : ℕ → ℕ → Written
-written number length = record { number = number; length = length }
+written number size = record { number = number; size = size }
 
--- 0 and the text's length; a refusal, and 0
+-- 0 and how many bytes the text has; a refusal, and 0
 unfoldable pub text : List ℕ → List ℕ → Written
 text b out =
     let number = textNumber b (length out) in
@@ -118,3 +118,13 @@ text b out =
 -- the text at the start of the buffer, bytes after it stay; "Every refusal leaves .. all lent bytes unchanged"
 unfoldable pub textBytes : List ℕ → List ℕ → List ℕ
 textBytes b out = cond (eqb (textNumber b (length out)) done) (over (textOf b) out) out
+
+-- ---- what the printing program prints
+
+-- "A bad schedule, or a longer input, prints only `refused 2`."
+abbrev pub refusedText : List ℕ
+refusedText = letters "refused 2" ++ lineEnd ∷ []
+
+-- for an input b; "Otherwise" its text
+unfoldable pub printed : List ℕ → List ℕ
+printed b = cond (good b) (textOf b) refusedText

@@ -1,33 +1,39 @@
 -- What the text promises, each under a plain sentence. First that numbers are written as everybody writes them; then what the call gives in each case;
 -- then what the lines show, how long a text can be, and document 01's own run. The arguments are in Proof. Assumes nothing.
-use mathlib.Core.List.{List, map}
+use mathlib.Core.Bool.{cond}
+use mathlib.Core.List.{List, [], _∷_, map}
 use mathlib.Core.Logic.{_≢_, _↔_}
 use mathlib.Core.Path.{_≡_, refl}
 use Prim.Native.Nat.{ℕ, _^_, _≤_, _<_}
+use native.Mathlib.Omega.{arith}
+use lib.Dec.{eqb}
 use lib.ListN.{drop, getD, length, take}
 use Rattle.acts.specs.Acts.{moved, perform}
 use Rattle.ask.specs.Ask.{howManyThreadsTo, status, statusOf, waiting}
+use Rattle.events.specs.FigureRun.{FigureRun}
 use Rattle.events.specs.Row.{howManyOf, rowAnswers, rowEnd, stopping}
+use Rattle.events.specs.Theorems.{row-figure}
 use Rattle.lines.specs.Lines.{lineAt}
-use Rattle.lock.specs.Fresh.{fresh, idleTo}
+use Rattle.lock.specs.Fresh.{fresh, freshState, idleTo}
 use Rattle.lock.specs.Valid.{nodesValid, sharedValid, threadsValid, valid}
 use Rattle.number.specs.First.{First}
 use Rattle.number.specs.OneResult.{only}
 use Rattle.number.specs.Refused.{done}
 use Rattle.refusals.specs.Refusals.{refusal}
 use Rattle.rows.specs.Rows.{Bytes, laid, values}
-use Rattle.run.specs.Run.{answersOf, ranOver, reportOf}
-use Rattle.schedule.specs.Schedule.{GoodSchedule, eventsOf, scheduleOf}
+use Rattle.run.specs.Run.{answersOf, ranOver, reportOf, run}
+use Rattle.schedule.specs.Schedule.{GoodSchedule, eventsOf, headingOf, scheduleOf}
 use Rattle.schedule.specs.Theorems.{good-schedule}
 use Rattle.step.specs.Step.{advance}
 use Rattle.word.specs.Word.{aloneIn, inUse, putIn, takeOut}
 use Rattle.text.specs.Decimal.{EachDigit, decimal, decimalTo, digit, lettersFrom, valueFrom}
+use Rattle.text.specs.Proof.Begun
 use Rattle.text.specs.Proof.Digits
 use Rattle.text.specs.Proof.Given
 use Rattle.text.specs.Proof.Shows
 use Rattle.text.specs.Proof.Sizes
 use Rattle.text.specs.Shown.{answerIn, fieldsOf, linesWith, page, wholeRun, wholeText}
-use Rattle.text.specs.Text.{begin, endLine, eventLine, eventLines, lineBefore, linesOf, mostText, numbers, text, textBytes, textConditions}
+use Rattle.text.specs.Text.{begin, endLine, eventLine, eventLines, lineBefore, linesOf, mostText, numbers, printed, refusedText, text, textBytes, textConditions}
 use Rattle.text.specs.Text.{textNumber, textOf, written}
 use Rattle.text.specs.declared.Written.{Written}
 
@@ -45,9 +51,14 @@ module _ (n : ℕ) where
   pub decimal-value : n < 2 ^ 32 → valueFrom 0 (decimal n) ≡ n
   decimal-value = Digits.decimal-value n
 
-  -- .. and no zero stands in front, but for the number 0.
+  -- .. and no zero stands in front, but for the number 0 ..
   pub decimal-first : n < 2 ^ 32 → getD (decimal n) 0 0 ≡ digit 0 → n ≡ 0
   decimal-first = Digits.decimal-first n
+
+-- .. which is one zero.
+pub decimal-zero : decimal 0 ≡ digit 0 ∷ []
+unfolding decimal decimalTo
+decimal-zero = refl
 
 -- ---- the call, for schedule b and a buffer
 module _ (b out : List ℕ) where
@@ -68,11 +79,11 @@ module _ (b out : List ℕ) where
   text-accepted = Given.accepted b out
 
   -- A refusal gives the length 0, and leaves every byte of the buffer unchanged.
-  pub text-refused : text b out .number ≢ done → (text b out .length ≡ 0) × (textBytes b out ≡ out)
+  pub text-refused : text b out .number ≢ done → (text b out .size ≡ 0) × (textBytes b out ≡ out)
   text-refused = Given.refused b out
 
   -- The length is never more than the buffer's.
-  pub text-within : text b out .length ≤ length out
+  pub text-within : text b out .size ≤ length out
   text-within = Given.within b out
 
   -- Two results and two buffers that both meet the call's promise are equal.
@@ -96,9 +107,27 @@ module _ (b : List ℕ) where
     pub text-fits : length (textOf b) ≤ mostText
     text-fits = Sizes.text-short b bytes (good-schedule b .1 rule)
 
-    -- .. so that a buffer of so many bytes is never too short.
-    pub never-short : textNumber b mostText ≡ done
-    never-short = Given.number-done b mostText (good-schedule b .1 rule) text-fits
+    -- .. so that a buffer of so many bytes, or more, is never too short.
+    pub never-short : (room : ℕ) → mostText ≤ room → textNumber b room ≡ done
+    never-short room l = Given.number-done b room (good-schedule b .1 rule) (omega (arith, text-fits, l))
+
+  -- ---- the run that the text tells of
+  module _ (rule : GoodSchedule b) where
+    -- The schedule is run "from fresh", the fresh state of its T and K; the last line is of that run, which nothing refuses ..
+    pub text-run : (answers : List ℕ) → 16_383 ≤ length answers
+        → (begin b ≡ freshState (headingOf b .threads) (headingOf b .nodes)) × (run (begin b) b answers ≡ ranOver (begin b) b)
+    text-run answers room = (Begun.begin-fresh b (good-schedule b .1 rule), Begun.begun-run b (good-schedule b .1 rule) answers room)
+
+    -- .. and the answers that the lines show are those of Figure 1 and the table of refusals.
+    pub text-figure : FigureRun (begin b) (eventsOf b) (map answerIn (fieldsOf b)) (rowEnd advance (begin b) (eventsOf b))
+    text-figure = rw text-answers (row-figure (begin b) (eventsOf b) (Begun.begin-valid b (good-schedule b .1 rule)))
+
+-- ---- the printing program
+
+-- With room for any text, what the program writes, the text where the number is 0 and `refused 2` where it is not, is what document 01 says is printed.
+pub prints : (b out : List ℕ) → Bytes b → mostText ≤ length out
+    → cond (eqb (text b out .number) done) (take (text b out .size) (textBytes b out)) refusedText ≡ printed b
+prints b out bytes room = Given.prints b out (λ h. omega (arith, text-fits b bytes (good-schedule b .0 h), room))
 
 -- ---- document 01's run
 

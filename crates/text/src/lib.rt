@@ -12,7 +12,7 @@ ghost use Rattle.schedule.specs.Schedule.{good};
 ghost use Rattle.text.specs.Decimal.{decimal};
 ghost use Rattle.text.specs.Inner.{Held, LineFits, LinesFit, TextFits, placed};
 ghost use Rattle.text.specs.Text.{begin as beginOf, endLine, eventLine, heading, lastOf, lineBefore, lineEnd, linesOf, numbers, space};
-ghost use Rattle.text.specs.Text.{text as given, textBytes, textOf, written};
+ghost use Rattle.text.specs.Text.{refusedText, text as given, textBytes, textOf, written};
 use events::Event;
 use lock::State;
 use number::BAD_SCHEDULE;
@@ -21,10 +21,10 @@ use number::TOO_SHORT;
 use run::Ran;
 use step::Stepped;
 
-// What the call gives: 0 and the text's length, or the refusal and 0.
+// What the call gives: 0 and how many bytes the text has, or the refusal and 0.
 pub struct Written {
     pub number: u8,
-    pub length: usize,
+    pub size: usize,
 }
 
 // No text is longer.
@@ -39,10 +39,10 @@ const LINE_ROOM: usize = 88;
 // No schedule has more events.
 const MOST_EVENTS: usize = 16_383;
 
-// A line: the first `length` of these bytes.
+// A line: the first `size` of these bytes.
 struct Line {
     bytes: [u8; LINE_ROOM],
-    length: usize,
+    size: usize,
 }
 
 // ---- numbers
@@ -126,8 +126,8 @@ fn event_line(n: u32, s: State, e: Event, r: Stepped) -> Line
         after.high.0,
     ];
     let mut bytes = [0u8; LINE_ROOM];
-    let length = put_numbers(&mut bytes, 0, &fields);
-    Line { bytes, length }
+    let size = put_numbers(&mut bytes, 0, &fields);
+    Line { bytes, size }
 }
 
 // The last line, of what the run reports and the state that it ends in.
@@ -146,18 +146,18 @@ fn end_line(r: Ran) -> Line
     ];
     let mut bytes = [0u8; LINE_ROOM];
     rows::put(&mut bytes, 0, b"end ");
-    let length = put_numbers(&mut bytes, 4, &fields);
-    Line { bytes, length }
+    let size = put_numbers(&mut bytes, 4, &fields);
+    Line { bytes, size }
 }
 
 // A line from a place on, where it is to be written; gives the place behind it.
 fn put_line(out: &mut [u8], at: usize, line: Line, write: bool) -> usize
     requires { ⌜ LineFits write line at (now out) ⌝ }
-    ensures place { λ r. ⌜ r ≡ at + line .length ⌝ }
-    ensures bytes { λ r. ⌜ now (out .exit) ≡ placed write (now (out .entry)) at (take (line .length) (line .bytes)) ⌝ }
+    ensures place { λ r. ⌜ r ≡ at + line .size ⌝ }
+    ensures bytes { λ r. ⌜ now (out .exit) ≡ placed write (now (out .entry)) at (take (line .size) (line .bytes)) ⌝ }
 {
     let bytes = line.bytes;
-    let n = line.length;
+    let n = line.size;
     if write {
         rows::put(out, at, &bytes[..n]);
     }
@@ -219,11 +219,18 @@ fn put_text(schedule: &[u8], out: &mut [u8], last: Line)
     put_line(out, place, last, true);
 }
 
-// A refusal, and the length 0.
+// A refusal, and 0.
 fn refused(number: u8) -> Written
     ensures { λ r. ⌜ r ≡ written number 0 ⌝ }
 {
-    Written { number, length: 0 }
+    Written { number, size: 0 }
+}
+
+// What is printed for an input that is no schedule.
+pub fn refused_text() -> [u8; 10]
+    ensures { λ r. ⌜ r ≡ refusedText ⌝ }
+{
+    *b"refused 2\n"
 }
 
 // The text of the schedule's run from fresh, at the start of `out`: 2 if the schedule is bad, then 4 if `out` is too short.
@@ -235,13 +242,13 @@ pub fn text(schedule: &[u8], out: &mut [u8]) -> Written
         return refused(BAD_SCHEDULE);
     }
     let last = last_line(schedule);
-    let length = event_lines(schedule, out, false) + last.length;
-    if out.len() < length {
+    let size = event_lines(schedule, out, false) + last.size;
+    if out.len() < size {
         return refused(TOO_SHORT);
     }
     put_text(schedule, out, last);
     Written {
         number: DONE,
-        length,
+        size,
     }
 }

@@ -14,10 +14,10 @@ text-requires : tie.Need-text-requires
 text-requires c κs = search needs
 
 -- there are so many bytes in the buffer
-within : (c : tie.After-text) → c .text .result .length ≤ length (c .text .last .1 .0)
+within : (c : tie.After-text) → c .text .result .size ≤ length (c .text .last .1 .0)
 within c =
     let a = c .before .before .before .before .args in
-    omega (arith, ap (λ (w : Written). w .length) (c .text .ensures .0), text-within (a .schedule .now) (a .out .now), c .text .kept .1 .0)
+    omega (arith, ap (λ (w : Written). w .size) (c .text .ensures .0), text-within (a .schedule .now) (a .out .now), c .text .kept .1 .0)
 
 slice-reshare-prefix-write-all : tie.Need-slice-reshare-prefix-write-all
 slice-reshare-prefix-write-all c = within (c .before .before .before .before)

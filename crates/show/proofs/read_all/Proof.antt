@@ -3,7 +3,7 @@
 use mathlib.Core.List.{List}
 use mathlib.Core.Path.{_≡_, sym}
 use Prim.Native.Nat.{ℕ, _-_, _≤_}
-use lib.ListN
+use lib.ListN.{length}
 use lib.Seq.{length-take-le}
 use borrow.Author.Needs.{needs}
 use Rattle.io.specs.Counts.{Counts}
@@ -11,14 +11,14 @@ use Rattle.show.proofs.read_all.Statement.{statement}
 use Rattle.show.proofs.read_all.Tie as tie
 
 -- so many bytes at the start of xs
-counts : (n : ℕ) (xs : List ℕ) → n ≤ ListN.length xs → Counts n xs
+counts : (n : ℕ) (xs : List ℕ) → n ≤ length xs → Counts n xs
 counts n xs h = (h, sym (length-take-le n xs h))
 
 abbrev Inv-loop : tie.InvT-loop
-Inv-loop input₀ length₀ input length = (length ≤ ListN.length input) × (ListN.length input ≡ ListN.length input₀)
+Inv-loop input₀ filled₀ input filled = (filled ≤ length input) × (length input ≡ length input₀)
 
 abbrev μ-loop : tie.MeasureT-loop
-μ-loop input₀ length₀ input length = ListN.length input - length
+μ-loop input₀ filled₀ input filled = length input - filled
 
 loop-holds : tie.Need-loop-holds Inv-loop μ-loop
 loop-holds c = search needs
@@ -59,8 +59,8 @@ same-length-2 c = search needs
 returns-2 : tie.Need-returns-2 Inv-loop μ-loop
 returns-2 c = counts _ _ (search needs)
 
-add-length : tie.Need-add-length Inv-loop μ-loop
-add-length c = search needs
+add-filled : tie.Need-add-filled Inv-loop μ-loop
+add-filled c = search needs
 
 loop-less : tie.Need-loop-less Inv-loop μ-loop
 loop-less c = search needs
@@ -93,7 +93,7 @@ read-all-spec =
     count-requires
     same-length-2
     returns-2
-    add-length
+    add-filled
     loop-less
     loop-again
     same-length-3

@@ -22,12 +22,12 @@ array-share-prefix-bytes c =
 slice-aggregate-put : tie.Need-slice-aggregate-put
 slice-aggregate-put c =
     let start = c .before .before .before .before .before in
-    sym (length-take-le (start .args .line .length) (start .args .line .bytes) (omega (arith, full start, start .pre .within)))
+    sym (length-take-le (start .args .line .size) (start .args .line .bytes) (omega (arith, full start, start .pre .within)))
 
 put-requires : tie.Need-put-requires
 put-requires c κs =
     let start = c .before .before .before .before .before in
-    rw (length-take-le (start .args .line .length) (start .args .line .bytes) (omega (arith, full start, start .pre .within)))
+    rw (length-take-le (start .args .line .size) (start .args .line .bytes) (omega (arith, full start, start .pre .within)))
     (start .pre .room (c .before .before .if1 .taken))
 
 add-result : tie.Need-add-result

@@ -33,7 +33,7 @@ abbrev judged : tie.After-event-lines → tie.Else1
 judged c = c .before .before .before
 
 -- how long it is
-measured : (c : tie.After-event-lines) → c .event-lines .result + c .before .before .last-line .result .length ≡ length (textOf (schedule (judged c)))
+measured : (c : tie.After-event-lines) → c .event-lines .result + c .before .before .last-line .result .size ≡ length (textOf (schedule (judged c)))
 measured c = omega (arith, text-length (schedule (judged c)), c .event-lines .ensures .0, c .before .before .last-line .ensures .long)
 
 -- and the buffer is as it was
@@ -60,8 +60,8 @@ last-line-requires c κs = is-good c
 event-lines-requires : tie.Need-event-lines-requires
 event-lines-requires c κs = record { schedule = is-good (c .before .before); room = λ w. absurd (true≢false (sym w)) }
 
-add-length : tie.Need-add-length
-add-length c =
+add-size : tie.Need-add-size
+add-size c =
     let lines = c .before .before .before in
     let good = judged lines in
     omega (arith, lines .event-lines .ensures .0, lines-near (schedule good) (is-good good), lines .before .before .last-line .ensures .within)
@@ -115,7 +115,7 @@ text-spec =
     returns
     last-line-requires
     event-lines-requires
-    add-length
+    add-size
     refused-requires-2
     same-length
     returns-2

@@ -1,13 +1,13 @@
 -- What the call gives: in which case its number is 2, 4 or 0, and the parts of the text that make the whole. Rests on the laws of stores (crate `rows`).
 -- Assumes nothing.
-use mathlib.Core.Bool.{Bool, false, true}
+use mathlib.Core.Bool.{Bool, cond, false, true}
 use mathlib.Core.List.{List, _++_}
 use mathlib.Core.Logic.{_≢_, _↔_}
 use mathlib.Core.Path.{_≡_, ap, refl, sym, _∙_}
 use Prim.Native.Nat.{ℕ, _+_, _≤_, _<_}
 use native.Mathlib.Nat.{zero-add}
 use native.Mathlib.Omega.{arith}
-use lib.Dec.{ltb}
+use lib.Dec.{eqb, ltb}
 use lib.ListN.{drop, length, length-append, take}
 use lib.Seq.{drop-append-seam, sets, take-append-seam}
 use borrow.Author.Tests.{le-ltb, lt-ltb, ltb-false, ltb-true, ne-eqb, not-false}
@@ -19,7 +19,8 @@ use Rattle.rows.specs.Stored.{sets-append, sets-over}
 use Rattle.schedule.specs.Schedule.{GoodSchedule, good}
 use Rattle.schedule.specs.Theorems.{good-schedule}
 use Rattle.text.specs.Inner.{placed}
-use Rattle.text.specs.Text.{heading, lastOf, linesOf, text, textBytes, textConditions, textNumber, textOf, textRefusals, written}
+use Rattle.text.specs.Text.{heading, lastOf, linesOf, printed, refusedText, text, textBytes, textConditions, textNumber, textOf}
+use Rattle.text.specs.Text.{textRefusals, written}
 
 module _ (b : List ℕ) where
   -- The text is as long as its heading, the lines of its events and its last line.
@@ -83,11 +84,11 @@ module _ (b : List ℕ) where
         go false e = is-bad e
 
     -- The length that is given is at most the buffer's.
-    pub within : text b out .length ≤ length out
+    pub within : text b out .size ≤ length out
     within =
         by-number (λ h. rw (bad h .0) (omega arith)) (λ h l. rw (short h l .0) (omega arith)) (λ h l. rw (fits h l .0) l)
 
-    pub refused : text b out .number ≢ done → (text b out .length ≡ 0) × (textBytes b out ≡ out)
+    pub refused : text b out .number ≢ done → (text b out .size ≡ 0) × (textBytes b out ≡ out)
     unfolding text textBytes
     refused off = rw (ne-eqb _ _ off) (refl, refl)
 
@@ -97,6 +98,16 @@ module _ (b : List ℕ) where
     accepted h =
         let n : ℕ = length (textOf b) in
         rw h (refl, take-append-seam (textOf b) (drop n out), drop-append-seam (textOf b) (drop n out))
+
+    -- What is written of the buffer, or in place of it, is what is to be printed, if a good schedule's text fits.
+    pub prints : (good b ≡ true → length (textOf b) ≤ length out)
+        → cond (eqb (text b out .number) done) (take (text b out .size) (textBytes b out)) refusedText ≡ printed b
+    unfolding printed
+    prints room =
+        by-number
+        (λ h. rw (bad h .0, h))
+        (λ h l. absurd (omega (arith, room h, l)))
+        (λ h l. rw (fits h l .0, fits h l .1, h) (take-append-seam (textOf b) (drop (length (textOf b)) out)))
 
   module _ (room : ℕ) where
     pub exactly : (m : ℕ) → (textNumber b room ≡ m) ↔ First (textConditions b room) m

@@ -134,10 +134,10 @@ module _ (write : Bool) (out : List ℕ) (at : ℕ) where
 
 -- A line that was stored in an array with room for any line: a word at its start, and numbers behind the word.
 pub held : (line : Line) (room word first ns : List ℕ) → length room ≡ lineRoom → length word + 11 * length ns ≤ lineRoom → first ≡ sets room 0 word
-    → line .length ≡ length word + length (numbers ns) → line .bytes ≡ sets first (length word) (numbers ns) → Held line (word ++ numbers ns)
+    → line .size ≡ length word + length (numbers ns) → line .bytes ≡ sets first (length word) (numbers ns) → Held line (word ++ numbers ns)
 held line room word first ns full fits begun long stored =
     let whole : List ℕ = word ++ numbers ns in
-    let behind : line .length ≡ length whole = long ∙ sym (length-append word (numbers ns)) in
+    let behind : line .size ≡ length whole = long ∙ sym (length-append word (numbers ns)) in
     let within : length whole ≤ lineRoom = omega (arith, length-append word (numbers ns), numbers-within ns) in
     let bytes : line .bytes ≡ sets room 0 whole =
     stored
