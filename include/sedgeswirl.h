@@ -23,7 +23,8 @@
  *     'S' 'E'  thread  node                                                                 4 bytes for each event
  *
  * An event executes one line of one thread. Its node is the one that the thread takes where the thread is at line 11, and is 0 at
- * every other line.
+ * every other line. A line follows a node where it reads or writes its record: my at 12, 13, 19, 20, 23, 24 and 26, prev at 18, and
+ * succ at 29 where it is not 0.
  *
  * Rules for every call:
  *   - A buffer is a pointer and then its length in bytes. No pointer may be NULL, not even where the length is 0.
@@ -32,7 +33,8 @@
  *   - A refused call changes no byte of a buffer. (A run that an event stops is not refused: see sedge_run.)
  *   - A number that is handed back through a pointer is written in every case. It is 0 where the call is refused.
  *   - The library keeps nothing between calls. Two threads may call at once on different buffers.
- *   - It takes no memory but the stack: about 4 KB, and in sedge_chain about 1 KB more for each node of the chain.
+ *   - It takes no memory but the stack: sedge_step about 0.5 KB, the others about 4 KB, and sedge_chain about 1 KB more for each node of
+ *     the chain.
  *
  * To link, on x86-64:  cc example.c -Iinclude target/staticlib/libboard.a
  * The archive needs nothing but memcpy and memset of the C library.
@@ -131,7 +133,8 @@ uint8_t sedge_step(uint8_t *saved, size_t saved_length, uint8_t thread, uint8_t 
  *   *executed  how many events were answered 0
  *   *waited    how many events were answered 12
  *   *unread    the place in schedule where its unread part begins: schedule_length if nothing stopped the run, the place after the
- *              event that stopped it, and 0 after refusals 1 to 4
+ *              event that stopped it, and 0 after refusals 1 to 4. What follows a stop is events without a heading: to run them, put
+ *              'S' 'H' T K before them
  * After refusals 1 to 4 all three are 0.
  */
 uint8_t sedge_run(uint8_t *saved, size_t saved_length, const uint8_t *schedule, size_t schedule_length, uint8_t *answers,
@@ -163,16 +166,16 @@ uint8_t sedge_in_use(const uint8_t *saved, size_t saved_length, uint8_t *in_use)
 
 /*
  * Chain: node `from`, its next, and so on, found link by link, ending before 0 or after K nodes. Nodes that are not in use are
- * walked too. The node numbers are written to the start of `out`, a byte each, and how many they are to *length. `out` needs K
+ * walked too. The node numbers are written to the start of `out`, a byte each, and how many they are to *listed. `out` needs K
  * bytes, also where the chain is shorter; the bytes after the list stay as they were.
  *
  * Returns 0, or
  *   1  the bytes are no saved state
  *   4  out has fewer than K bytes
  *   6  from is not 1 to K
- * Refused, *length is 0 and no byte of out changes.
+ * Refused, *listed is 0 and no byte of out changes.
  */
-uint8_t sedge_chain(const uint8_t *saved, size_t saved_length, uint8_t from, uint8_t *out, size_t out_length, uint8_t *length);
+uint8_t sedge_chain(const uint8_t *saved, size_t saved_length, uint8_t from, uint8_t *out, size_t out_length, uint8_t *listed);
 
 #ifdef __cplusplus
 }

@@ -58,7 +58,8 @@ fn options() -> Option<Options> {
             _ => return None,
         }
     }
-    Some(options)
+    // Only the benchmark does without the printing program.
+    (options.bench || !options.show.as_os_str().is_empty()).then_some(options)
 }
 
 /// The parts, with what they share: both sides, the random numbers and the number of things compared.

@@ -214,7 +214,7 @@ pub fn edges(show: &mut Show, random: &mut Random) {
     show.compare_unreadable(directory, "a directory as standard input");
 }
 
-/// Stops 5, 6 and 8, and 7, 9, 10 and 11 which no run of 16,383 events from fresh reaches.
+/// Stops 5, 6 and 8; no run of 16,383 events from fresh reaches 7, 9, 10 or 11.
 pub fn stops(show: &mut Show) {
     for threads in [1, 2, 32] {
         for nodes in [1, 2, 32] {

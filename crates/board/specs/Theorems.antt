@@ -186,11 +186,19 @@ module _ (b : List ℕ) where
   pub sedge-in-use-refused : askInUse b .number ≢ done → askInUse b ≡ refused badState
   sedge-in-use-refused = Question.of-refused Question.in-use-judges b
 
--- Two results that both meet the promise of any of the three are equal: the number, and the value that is stored. (`asked` is what the question gives:
--- askStatus b, askWaiting b or askInUse b.)
-pub sedge-asked-one-result : (asked : Asked) (r r′ x x′ : ℕ) → (r ≡ asked .number) × (x ≡ asked .value)
-    → (r′ ≡ asked .number) × (x′ ≡ asked .value) → (r ≡ r′) × (x ≡ x′)
-sedge-asked-one-result asked r r′ x x′ p q = (only (p .0) (q .0), only (p .1) (q .1))
+-- Two results that both meet the promise are equal, of each of the three: the number, and the value that is stored.
+module _ (b : List ℕ) (r r′ x x′ : ℕ) where
+  pub sedge-status-one-result : (r ≡ askStatus b .number) × (x ≡ askStatus b .value) → (r′ ≡ askStatus b .number) × (x′ ≡ askStatus b .value)
+      → (r ≡ r′) × (x ≡ x′)
+  sedge-status-one-result = Question.only-one (askStatus b)
+
+  pub sedge-waiting-one-result : (r ≡ askWaiting b .number) × (x ≡ askWaiting b .value) → (r′ ≡ askWaiting b .number) × (x′ ≡ askWaiting b .value)
+      → (r ≡ r′) × (x ≡ x′)
+  sedge-waiting-one-result = Question.only-one (askWaiting b)
+
+  pub sedge-in-use-one-result : (r ≡ askInUse b .number) × (x ≡ askInUse b .value) → (r′ ≡ askInUse b .number) × (x′ ≡ askInUse b .value)
+      → (r ≡ r′) × (x ≡ x′)
+  sedge-in-use-one-result = Question.only-one (askInUse b)
 
 -- ---- sedge_chain
 module _ (b : List ℕ) (from : ℕ) (out : List ℕ) where

@@ -141,12 +141,12 @@ pub extern "C" fn sedge_in_use(bytes: &[u8], in_use: &mut u8) -> u8
 
 // The chain of nodes that starts at `from`, at the start of `out`, and its length: 1, 4 and 6, the first that applies.
 #[no_mangle]
-pub extern "C" fn sedge_chain(bytes: &[u8], from: u8, out: &mut [u8], length: &mut u8) -> u8
+pub extern "C" fn sedge_chain(bytes: &[u8], from: u8, out: &mut [u8], listed: &mut u8) -> u8
     ensures number { λ r. ⌜ r ≡ askChain (now (bytes .entry)) from (now (out .entry)) .number ⌝ }
-    ensures value { λ r. ⌜ now (length .exit) ≡ askChain (now (bytes .entry)) from (now (out .entry)) .value ⌝ }
+    ensures value { λ r. ⌜ now (listed .exit) ≡ askChain (now (bytes .entry)) from (now (out .entry)) .value ⌝ }
     ensures list { λ r. ⌜ now (out .exit) ≡ askChainBytes (now (bytes .entry)) from (now (out .entry)) ⌝ }
 {
     let asked = ask::chain(held_in(bytes), NodeNo(from), out);
-    *length = asked.value;
+    *listed = asked.value;
     asked.number
 }

@@ -77,7 +77,7 @@ runBytes s b out = cond (eqb (refusal s b (length out)) done) (over (answersOf s
 
 -- ---- "It also hands back the unread part of the caller's own schedule"
 
--- 1 to 4, which "come before the first event"
+-- 1 to 4, which "come before the first event"; 0 was told apart before
 abbrev pub beforeEvents : ℕ → Bool
 beforeEvents number = leb number tooShort
 

@@ -171,7 +171,7 @@ fn part_from<'a>(schedule: &'a [u8], at: usize) -> &'a [u8]
     &schedule[end..]
 }
 
-// The refusals that come before the first event: 1 to 4.
+// The refusals that come before the first event: 1 to 4. (0 was told apart before.)
 fn before_events(number: u8) -> bool
     ensures { λ r. ⌜ r ≡ beforeEvents number ⌝ }
 {

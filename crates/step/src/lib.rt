@@ -1,5 +1,6 @@
 // One step of the lock, by value. `advance` takes a state that was judged before; `step` judges it first, and is the call for
-// everyone else. Both answer a number of document 01 and give the state after the event. Rests on all the crates below it.
+// everyone else. Both answer a number of document 01 and give the state after the event. `opened` and `tell` serve a loop that works
+// on its state where it stands. Rests on all the crates below it.
 ghost use mathlib.Core.Path.{_≡_};
 ghost use Rattle.step.specs.InPlace.{openedWith, toldTo};
 ghost use Rattle.step.specs.Step.{advance as advanceOf, closed, noThread, step as stepOf};
@@ -72,7 +73,7 @@ fn close(s: State, t: ThreadNo, k: NodeNo, w: Window) -> State
     lock::with_thread(noded, t, v)
 }
 
-// One event of a state that was judged before. Rows of steps judge their first state once and then advance.
+// One event of a state that was judged before. A row of steps judges its first state once, and then advances or works in place.
 pub fn advance(s: State, t: ThreadNo, n: NodeNo) -> Stepped
     ensures { λ r. ⌜ r ≡ advanceOf s t n ⌝ }
 {

@@ -33,8 +33,8 @@ use Rattle.text.specs.Proof.Given
 use Rattle.text.specs.Proof.Shows
 use Rattle.text.specs.Proof.Sizes
 use Rattle.text.specs.Shown.{answerIn, fieldsOf, linesWith, page, wholeRun, wholeText}
-use Rattle.text.specs.Text.{begin, endLine, eventLine, eventLines, lineBefore, linesOf, mostText, numbers, printed, refusedText, text, textBytes, textConditions}
-use Rattle.text.specs.Text.{textNumber, textOf, written}
+use Rattle.text.specs.Text.{begin, endLine, eventLine, eventLines, lineBefore, linesOf, mostText, numbers, printed}
+use Rattle.text.specs.Text.{refusedText, text, textBytes, textConditions, textNumber, textOf, written}
 use Rattle.text.specs.declared.Written.{Written}
 
 -- ---- numbers

@@ -9,6 +9,7 @@ use Rattle.ask.specs.declared.Asked.{Asked}
 use Rattle.lock.specs.Valid.{Sized, Valid}
 use Rattle.lock.specs.declared.State.{State}
 use Rattle.number.specs.First.{First}
+use Rattle.number.specs.OneResult.{only}
 use Rattle.number.specs.Refused.{badState, done}
 use Rattle.saved.specs.Saved.{SavedFile}
 use Rattle.board.specs.Board.{heldIn, savedConditions}
@@ -40,3 +41,8 @@ module _ {ask : State → Asked} (j : Judging ask) (b : List ℕ) where
 
   pub of-refused : ask (heldIn b) .number ≢ done → ask (heldIn b) ≡ refused badState
   of-refused off = by-cases (saved-or-not b) (λ f. absurd (off (of-saved f))) of-bad
+
+-- what a question gives leaves no second number and no second value
+pub only-one : (asked : Asked) {r r′ x x′ : ℕ} → (r ≡ asked .number) × (x ≡ asked .value) → (r′ ≡ asked .number) × (x′ ≡ asked .value)
+    → (r ≡ r′) × (x ≡ x′)
+only-one asked p q = (only (p .0) (q .0), only (p .1) (q .1))

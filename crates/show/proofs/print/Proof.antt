@@ -28,6 +28,9 @@ slice-aggregate-write-all c = let told = c .before .before .before .before .befo
 write-all-requires : tie.Need-write-all-requires
 write-all-requires c κs = search needs
 
+refused-text-requires : tie.Need-refused-text-requires
+refused-text-requires c κs = search needs
+
 slice-aggregate-write-all-2 : tie.Need-slice-aggregate-write-all-2
 slice-aggregate-write-all-2 c = search needs
 
@@ -54,6 +57,7 @@ print-spec =
     slice-reshare-prefix-write-all
     slice-aggregate-write-all
     write-all-requires
+    refused-text-requires
     slice-aggregate-write-all-2
     write-all-requires-2
     same-length

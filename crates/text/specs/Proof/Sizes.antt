@@ -3,13 +3,14 @@
 use mathlib.Core.Bool.{Bool, cond, false, true}
 use mathlib.Core.List.{List, [], _∷_}
 use mathlib.Core.Path.{_≡_, refl}
-use Prim.Native.Nat.{ℕ, zero, suc, _+_, _*_, _≤_, _<_}
+use Prim.Native.Nat.{ℕ, suc, _+_, _*_, _≤_, _<_}
 use native.Mathlib.Decide.{ℕ-discrete}
 use native.Mathlib.Omega.{arith}
 use lib.Dec.{eqb, ltb}
 use lib.ListN.{getD, length, length-append}
 use borrow.Author.Tests.{eqb-false, eqb-true, ltb-false, ltb-true}
-use Rattle.ask.specs.Ask.{answered, free, held, howManyThreadsTo, isFree, isHeld, isWaiting, passing, refused, status, statusOf, waiting}
+use Rattle.ask.specs.Ask.{answered, free, held, isFree, isHeld, isWaiting, passing, refused, status, statusOf, waiting}
+use Rattle.ask.specs.Proof.Count.{threads-at-most}
 use Rattle.events.specs.Proof.Judged.{state-valid}
 use Rattle.events.specs.Row.{executed, goesOn, rowAnswers, rowEnd, stopping, waited}
 use Rattle.events.specs.Theorems.{row-counts, row-length, row-valid, stopping-5-to-11, stops-5-to-11}
@@ -17,7 +18,6 @@ use Rattle.events.specs.declared.Event.{Event}
 use Rattle.lock.specs.State.{threadAt}
 use Rattle.lock.specs.Valid.{Valid, valid}
 use Rattle.lock.specs.declared.State.{State}
-use Rattle.lock.specs.declared.Thread.{Thread}
 use Rattle.number.specs.Numbers.{thread}
 use Rattle.number.specs.Refused.{badState, done, mustWait, noPlaceLeft}
 use Rattle.number.specs.Sizes.{lastLine}
@@ -126,18 +126,9 @@ status-small s = small-value (valid s) _ 3 (go (isFree s) (isHeld s))
     go false true = omega arith
     go false false = omega arith
 
-count-small : (t : ℕ) (test : Thread → Bool) (s : State) → howManyThreadsTo t test s ≤ t
-unfolding howManyThreadsTo
-count-small zero test s = omega arith
-count-small (suc t) test s = omega (arith, count-small t test s, one (test (threadAt s (thread (suc t)))))
-  where
-    one : (b : Bool) → cond b 1 0 ≤ 1
-    one true = omega arith
-    one false = omega arith
-
 waiting-small : (s : State) → Valid s → waiting s .value ≤ 32
 unfolding waiting
-waiting-small s rule = small-value (valid s) _ 32 (omega (arith, count-small (s .shared .threads) isWaiting s, rule .shared .threads .to))
+waiting-small s rule = small-value (valid s) _ 32 (omega (arith, threads-at-most (s .shared .threads) isWaiting s, rule .shared .threads .to))
 
 module _ (s : State) (es : List Event) (rule : Valid s) (few : length es ≤ 16_383) where
   abbrev given : List ℕ
