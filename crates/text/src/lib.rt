@@ -247,8 +247,5 @@ pub fn text(schedule: &[u8], out: &mut [u8]) -> Written
         return refused(TOO_SHORT);
     }
     put_text(schedule, out, last);
-    Written {
-        number: DONE,
-        size,
-    }
+    Written { number: DONE, size }
 }
