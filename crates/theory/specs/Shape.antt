@@ -1,0 +1,3 @@
+-- The queue of the lock MCSHLi.
+pub mod Memory
+pub mod Shape
