@@ -2,3 +2,4 @@
 pub mod Demands
 pub mod Queue
 pub mod Shape
+pub mod Proof

@@ -6,3 +6,5 @@ pub mod Places
 pub mod Nodes
 pub mod Links
 pub mod Order
+pub mod View
+pub mod Once
