@@ -7,7 +7,7 @@ use mathlib.Core.Logic.{_≢_, _↔_}
 use mathlib.Core.Path.{_≡_}
 use Prim.Native.Nat.{ℕ, _+_, _-_, _≤_}
 use lib.Dec.{eqb, leb}
-use lib.ListN.{getD}
+use lib.ListN.{getD, length, take}
 use Rattle.ask.specs.Ask.{answered, free, howManyThreads, status}
 use Rattle.events.specs.Events.{after, answers}
 use Rattle.events.specs.declared.Event.{Event}
@@ -20,6 +20,8 @@ use Rattle.number.specs.Numbers.{bottom}
 use Rattle.number.specs.Refused.{done, followedEmpty, noPlaceLeft}
 use Rattle.number.specs.Sizes.{mostNodes, mostThreads}
 use Rattle.number.specs.declared.ThreadNo.{ThreadNo}
+use Rattle.run.specs.Run.{refusal, stepAnswers}
+use Rattle.schedule.specs.Schedule.{eventsOf}
 use Rattle.step.specs.Demands.{Tool}
 
 -- ---- the lines that demand 3 names
@@ -126,3 +128,13 @@ module _ (tool : Tool) where
 -- "Start from a fresh lock and take every sequence of events": for every T and K from 1 to 32, and any thread and node numbers whatever
 abbrev pub FromFresh : (State → List Event → Type 0) → Type 0
 FromFresh P = (T K : ℕ) → Between 1 T mostThreads → Between 1 K mostNodes → (es : List Event) → P (freshState T K) es
+
+-- ---- runs
+
+-- the events that a run takes: none where it is refused, and else as many as are answered, the one that stops it included
+abbrev pub eventsTaken : State → List ℕ → List ℕ → List Event
+eventsTaken s b out = cond (eqb (refusal s b (length out)) done) (take (length (stepAnswers s b)) (eventsOf b)) []
+
+-- every run from a fresh lock, over any schedule and with any buffer for its answers
+abbrev pub RunFromFresh : (State → List ℕ → List ℕ → Type 0) → Type 0
+RunFromFresh P = (T K : ℕ) → Between 1 T mostThreads → Between 1 K mostNodes → (b out : List ℕ) → P (freshState T K) b out

@@ -8,3 +8,4 @@ pub mod Links
 pub mod Order
 pub mod View
 pub mod Once
+pub mod Counts

@@ -1,5 +1,6 @@
 -- Counting threads that pass a test: by induction on the number of the last thread that is counted, each of which counts 1 or 0. Assumes nothing.
 use mathlib.Core.Bool.{Bool, cond, false, true}
+use mathlib.Core.List.{List}
 use mathlib.Core.Logic.{_≢_, ⊎-elim}
 use mathlib.Core.Path.{_≡_, ap, refl, sym, _∙_}
 use Prim.Native.Nat.{ℕ, zero, suc, _+_, _≤_, _<_}
@@ -7,7 +8,7 @@ use native.Mathlib.Nat.{eq-or-lt-of-le}
 use native.Mathlib.Omega.{arith}
 use lib.ListN.{length}
 use Rattle.lock.specs.Laws.{nth-set-other, nth-set-same}
-use Rattle.lock.specs.State.{_⟨thread_≔_⟩, threadAt, zeroThread}
+use Rattle.lock.specs.State.{_⟨thread_≔_⟩, nth, threadAt, zeroThread}
 use Rattle.lock.specs.Valid.{Between, Valid}
 use Rattle.lock.specs.declared.State.{State}
 use Rattle.lock.specs.declared.Thread.{Thread}
@@ -53,6 +54,13 @@ unfolding howManyThreadsTo
 same-count zero test test′ s s′ h = refl
 same-count (suc t) test test′ s s′ h =
     rw (same-count t test test′ s s′ (λ u b. h u (wider b)), h (thread (suc t)) (is-last t))
+
+-- States with the same threads count as many.
+pub count-alike : (test : Thread → Bool) (s s′ : State) → s′ .thread ≡ s .thread → s′ .shared .threads ≡ s .shared .threads
+    → howManyThreads test s′ ≡ howManyThreads test s
+count-alike test s s′ same-threads same-size =
+    ap (λ (t : ℕ). howManyThreadsTo t test s′) same-size
+    ∙ same-count (s .shared .threads) test test s′ s (λ u b. ap (λ (xs : List Thread). test (nth xs (u .0) zeroThread)) same-threads)
 
 -- If none is counted, none passes.
 pub none-passes : (t : ℕ) (test : Thread → Bool) (s : State) → howManyThreadsTo t test s ≡ 0

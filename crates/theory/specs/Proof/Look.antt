@@ -28,10 +28,14 @@ look v = onward (v .line) (v .prev .0) (v .succ .0)
 abbrev pub threadsOf : ℕ → State → ℕ → Seen
 threadsOf base s = threadsIn look base (s .thread)
 
--- ---- a choice between two lines is one of them, and between them
-one-of : (b : Bool) (P : ℕ → Type 0) (k n : ℕ) → P k → P n → P (cond b k n)
+-- a choice between two lines is one of them
+pub one-of : (b : Bool) (P : ℕ → Type 0) (k n : ℕ) → P k → P n → P (cond b k n)
 one-of true P k n x y = x
 one-of false P k n x y = y
+
+-- a thread that goes on to one of two lines at which it is seen itself is seen there
+pub goes-on : (b : Bool) (k n p s : ℕ) → onward k p s ≡ k → onward n p s ≡ n → onward (cond b k n) p s ≡ cond b k n
+goes-on b k n p s = one-of b (λ (l : ℕ). onward l p s ≡ l) k n
 
 -- By what is seen of a line.
 pub by-look : {X : Type 0} (l p s : ℕ) → (l ≢ 15 → l ≢ 21 → onward l p s ≡ l → X) → (l ≡ 15 → In 16 18 (onward l p s) → X)
@@ -49,9 +53,9 @@ module _ (base : ℕ) (s : State) (t : ThreadNo) where
   unfolding threadsIn
   seen-line = refl
 
-  -- at every other line it is its own
-  pub seen-there : (l : ℕ) → line s t ≡ l → l ≢ 15 → l ≢ 21 → threadsOf base s (t .0) .line ≡ l
-  seen-there l e a b = seen-line ∙ rw (e, ne-eqb l 15 a, ne-eqb l 21 b)
+  -- At a numeral line this computes.
+  pub seen-at : (l : ℕ) → line s t ≡ l → threadsOf base s (t .0) .line ≡ onward l (prev s t .0) (succ s t .0)
+  seen-at l e = seen-line ∙ ap (λ (x : ℕ). onward x (prev s t .0) (succ s t .0)) e
 
   -- A thread at the lines a to b is seen at these lines, if what comes behind 15 and behind 21 is among them too.
   pub seen-within : (a b : ℕ) → (In a b 15 → 18 ≤ b) → (In a b 21 → 25 ≤ b) → In a b (line s t) → In a b (threadsOf base s (t .0) .line)

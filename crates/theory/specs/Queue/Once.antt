@@ -9,7 +9,7 @@ use Prim.Native.Nat.{ℕ, zero, suc, _+_, _-_, _≤_, _<_}
 use native.Mathlib.Decide.{decLe, decLt, ℕ-discrete}
 use native.Mathlib.Omega.{arith}
 use lib.Dec.{eqb}
-use lib.ListN.{drop, getD, length, length-drop}
+use lib.ListN.{drop, getD, length, length-drop, take-append-drop}
 use lib.Seq.{getD-drop}
 use borrow.Author.Tests.{eqb-false, eqb-true}
 use Rattle.number.specs.Numbers.{thread}
@@ -102,6 +102,10 @@ module _ {a b c d : ℕ} {th : ℕ → Seen} {taker : ℕ → ℕ} {low high : �
 
   abbrev pub waiting : List ThreadNo
   waiting = drop (length passed) exchanged
+
+  -- the exchanges are the passages, and then those of these threads
+  pub passed-first : exchanged ≡ passed ++ waiting
+  passed-first = sym (take-append-drop (length passed) exchanged) ∙ ap (λ (xs : List ThreadNo). xs ++ waiting) (sym (o .first))
 
   -- no thread stands among them twice
   pub waiting-once : (t : ThreadNo) → howOften t waiting ≤ 1
