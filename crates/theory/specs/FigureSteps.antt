@@ -1,11 +1,11 @@
--- "Demand 3 speaks of the figure's steps, so a tool that never moves can't earn it": the steps of Figure 1 from a fresh lock, by themselves, and that a tool takes
--- them all. Each event names a thread 1 to T, and a node 1 to K at line 11 and none elsewhere; the rest is the figure's. (Demand 2 accepts a step of the
--- figure only if besides followed nodes are in use and places remain. From a fresh lock that is always so, and is not asked here.) Assumes nothing.
+-- "Demand 3 speaks of the figure's steps, so a tool that never moves can't earn it": the steps of Figure 1 from a fresh lock, by themselves, and that a tool
+-- takes them all. Each event names a thread 1 to T, and a node 1 to K at line 11 and none elsewhere; the rest is the figure's. (Demand 2 accepts a step of
+-- the figure only if besides followed nodes are in use and places remain. From a fresh lock that is always so, and is not asked here.) Assumes nothing.
 use mathlib.Core.Bool.{cond, true}
 use mathlib.Core.List.{List, [], _∷_}
 use mathlib.Core.Logic.{_≢_}
 use mathlib.Core.Path.{_≡_}
-use Prim.Native.Nat.{ℕ, _≤_, _<_}
+use Prim.Native.Nat.{_≤_, _<_}
 use lib.Dec.{eqb}
 use Rattle.events.specs.Events.{acceptsAll, after}
 use Rattle.events.specs.declared.Event.{Event}

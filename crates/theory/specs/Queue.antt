@@ -1,4 +1,7 @@
 -- The queue of any machine: what is said here is over line numbers as parameters.
+-- Functions: functions of a number, with one value changed. AtLines: facts that hold at some lines. Seen: a thread, as the theory sees it. Places: who has
+-- which place. Nodes: who owns which node. Links: neighbours. Order: first in, first out. Once: nobody passes twice while another waits. Counts: entered,
+-- high and low. View: a state's tables, as the theory sees them.
 pub mod Functions
 pub mod AtLines
 pub mod Seen
@@ -6,6 +9,6 @@ pub mod Places
 pub mod Nodes
 pub mod Links
 pub mod Order
-pub mod View
 pub mod Once
 pub mod Counts
+pub mod View

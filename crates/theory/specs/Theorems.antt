@@ -1,5 +1,6 @@
--- Demand 3, proved: what every run from a fresh lock has. The statements are those of Demands.antt, for every T and K from 1 to 32 and every list of events, or
--- every schedule and buffer that `run` is given. The arguments are in Proof, over the shape of the queue (Shape, Queue). Assumes nothing.
+-- Demand 3, proved: what every run from a fresh lock has. The statements are those of Demands.antt, for every T and K from 1 to 32 and every list of events,
+-- or every schedule and buffer that `run` is given; and those of FigureSteps.antt. The arguments are in Proof, over the shape of the queue (Shape, Queue).
+-- Assumes nothing.
 use mathlib.Core.Path.{_≡_, subst}
 use Prim.Native.Nat.{ℕ, _<_}
 use lib.ListN.{getD, length}
@@ -31,7 +32,8 @@ pub passages-prefix : FromFresh (PassagesPrefix step)
 passages-prefix T K threads nodes es = Passages.passed-prefix (fresh-reached T K threads nodes es)
 
 -- .. so the n-th passage is made by the thread that made the n-th tail exchange. (Both are counted from 0 here.)
-pub nth-passage : FromFresh (λ s es. (i : ℕ) → i < length (passages step s es) → getD (passages step s es) i (thread 0) ≡ getD (exchanges step s es) i (thread 0))
+pub nth-passage : FromFresh (λ s es.
+    (i : ℕ) → i < length (passages step s es) → getD (passages step s es) i (thread 0) ≡ getD (exchanges step s es) i (thread 0))
 nth-passage T K threads nodes es i =
     let s = freshState T K in
     Passages.prefix-at (passages step s es) (exchanges step s es) (passages-prefix T K threads nodes es) i (thread 0)

@@ -1,16 +1,16 @@
--- What a reached state has, in the words of document 01: the statements of demand 3 about a state. Whether an event is accepted is asked of the step's conditions
--- (`accepted-exactly`, `exactly-when`), none of which is about how the step is made. Rests on Reached, Shape/Goes and the theorems of step and ask.
--- Assumes nothing.
+-- What a reached state has, in the words of document 01: the statements of demand 3 about a state. Whether an event is accepted is asked of the step's
+-- conditions (`accepted-exactly`, `exactly-when`), none of which is about how the step is made. Rests on Reached, Shape/Goes and the theorems of the
+-- crates `step` and `ask`. Assumes nothing.
 use mathlib.Core.Bool.{Bool, cond, false, true, _||_}
 use mathlib.Core.List.{List, [], _∷_}
-use mathlib.Core.Logic.{_≢_, _↔_, _⊎_, by-cases, ⊎-elim}
+use mathlib.Core.Logic.{_≢_, _⊎_, by-cases, ⊎-elim}
 use mathlib.Core.Path.{_≡_, ap, refl, subst, sym, _∙_}
-use Prim.Native.Nat.{ℕ, _+_, _≤_, _<_}
+use Prim.Native.Nat.{ℕ, _≤_}
 use native.Mathlib.Decide.{decLe, ℕ-discrete}
 use native.Mathlib.Omega.{arith}
 use lib.Dec.{T, eqb}
 use borrow.Author.Tests.{eqb-true}
-use Rattle.ask.specs.Ask.{answered, free, howManyThreads, status}
+use Rattle.ask.specs.Ask.{howManyThreads}
 use Rattle.ask.specs.Meaning.{Free}
 use Rattle.ask.specs.Theorems.{count-none, status-exactly}
 use Rattle.ask.specs.declared.Asked.{Asked}
@@ -92,7 +92,7 @@ module _ {s : State} {exchanged passed : List ThreadNo} (r : Reached s exchanged
   one-inside t u a b =
       let x = seen-at (r .base) s t 27 a in
       let y = seen-at (r .base) s u 27 b in
-      same-thread (one-is-inside m th shape (t .0) (u .0) (omega arith) (omega arith))
+      same-thread (one-is-inside shape (t .0) (u .0) (omega arith) (omega arith))
 
   -- ---- the nodes that a line follows
 
@@ -105,10 +105,10 @@ module _ {s : State} {exchanged passed : List ThreadNo} (r : Reached s exchanged
 
   pub followed-used : (t : ThreadNo) (k : NodeNo) → Follows (threadAt s t) k → InUse k
   unfolding threadsIn
-  followed-used t k (my-at h e) = rw e (used (my s t) (my-used m th shape (t .0) (seen-within (r .base) s t 12 26 (λ _. omega arith) (λ _. omega arith)
+  followed-used t k (my-at h e) = rw e (used (my s t) (my-used shape (t .0) (seen-within (r .base) s t 12 26 (λ _. omega arith) (λ _. omega arith)
       (of-among (In 12 26) (line s t) followMy (omega arith) h))))
-  followed-used t k (prev-at h e) = rw e (used (prev s t) (prev-used m th shape (t .0) (seen-at (r .base) s t 18 h)))
-  followed-used t k (succ-at h some e) = rw e (used (succ s t) (succ-used m th shape (t .0) (seen-at (r .base) s t 29 h) some))
+  followed-used t k (prev-at h e) = rw e (used (prev s t) (prev-used shape (t .0) (seen-at (r .base) s t 18 h)))
+  followed-used t k (succ-at h some e) = rw e (used (succ s t) (succ-used shape (t .0) (seen-at (r .base) s t 29 h) some))
 
   -- ---- the places
 
@@ -204,7 +204,7 @@ module _ {s : State} {exchanged passed : List ThreadNo} (r : Reached s exchanged
       (thread q, busy, able-accepted (thread q) busy able)
 
   pub some-can-step : SomeCanStep step s
-  some-can-step t busy = goes (progress m th shape (t .0) seen)
+  some-can-step t busy = goes (progress shape (t .0) seen)
     where
       goes : (q : ℕ) × Able m (th q) → Goes
       goes (q, able) = able-goes q able
@@ -223,10 +223,10 @@ module _ {s : State} {exchanged passed : List ThreadNo} (r : Reached s exchanged
   -- ---- free holds exactly when low = high
 
   free-low : Free s → low s ≡ high s
-  free-low h = let e = free-empty m th shape (h .0) (h .1) in same-place (omega arith)
+  free-low h = let e = free-empty shape (h .0) (h .1) in same-place (omega arith)
 
   low-free : low s ≡ high s → Free s
-  low-free e = let same = ap (λ (k : Place). k .0) e in empty-free m th shape (omega arith)
+  low-free e = let same = ap (λ (k : Place). k .0) e in empty-free shape (omega arith)
 
   pub free-exactly : FreeExactly s
   free-exactly =

@@ -16,7 +16,7 @@ use Rattle.number.specs.Numbers.{thread}
 use Rattle.number.specs.declared.ThreadNo.{ThreadNo}
 use Rattle.theory.specs.Queue.AtLines.{In}
 use Rattle.theory.specs.Queue.Seen.{Seen}
-use Rattle.theory.specs.Queue.View.{threadsIn, view}
+use Rattle.theory.specs.Queue.View.{threadsIn}
 
 abbrev pub onward : ℕ → ℕ → ℕ → ℕ
 onward line prev succ = cond (eqb line 15) (cond (eqb prev 0) 16 18) (cond (eqb line 21) (cond (eqb succ 0) 22 25) line)

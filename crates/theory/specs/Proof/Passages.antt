@@ -1,13 +1,13 @@
--- What demand 3 says of lists of events: the passages are the first of the exchanges, no thread passes twice while another waits, and no event is answered 9 to 11.
--- Rests on Reached, Follows and Queue/Once. Assumes nothing.
-use mathlib.Core.Bool.{cond, true}
+-- What demand 3 says of lists of events: the passages are the first of the exchanges, no thread passes twice while another waits, and no event is answered
+-- 9 to 11. Rests on Reached, Follows and Queue/Once. Assumes nothing.
+use mathlib.Core.Bool.{true}
 use mathlib.Core.List.{List, [], _∷_, _++_, append-assoc, append-cancel-left}
 use mathlib.Core.Path.{_≡_, ap, refl, sym, _∙_}
 use Prim.Native.Nat.{ℕ, zero, suc, _≤_, _<_}
 use native.Mathlib.Omega.{arith}
 use lib.Dec.{eqb}
 use lib.ListN.{List·getD-append, getD, length}
-use borrow.Author.Tests.{eqb-true, ne-eqb}
+use borrow.Author.Tests.{eqb-true}
 use Rattle.events.specs.Events.{after, answers}
 use Rattle.events.specs.declared.Event.{Event}
 use Rattle.figure.specs.Figure.{line}
@@ -18,7 +18,7 @@ use Rattle.number.specs.Tests.{first-holds, second-holds}
 use Rattle.number.specs.declared.ThreadNo.{ThreadNo}
 use Rattle.step.specs.Demands.{Tool}
 use Rattle.step.specs.Step.{step}
-use Rattle.theory.specs.Demands.{PassesOnce, Prefix, acceptedAt, doneAt, exchange, exchanges, howOften, passages, section}
+use Rattle.theory.specs.Demands.{PassesOnce, Prefix, acceptedAt, doneAt, exchange, exchanges, howOften, passages}
 use Rattle.theory.specs.Proof.Follows.{never}
 use Rattle.theory.specs.Proof.Reached.{Reached, event-reached, events-reached}
 use Rattle.theory.specs.Queue.Once
@@ -70,7 +70,8 @@ module _ {s : State} {exchanged passed : List ThreadNo} (r : Reached s exchanged
         → Prefix since (queue ++ e .thread ∷ exchanges step s₁ later)
     front-passed r₃ x-is y-is =
         let rest = waiting (r₃ .kept .0 .places) (r₃ .kept .1) refl in
-        let whole = sym x-is ∙ passed-first (r₃ .kept .0 .places) (r₃ .kept .1) refl ∙ ap (λ (xs : List ThreadNo). xs ++ rest) y-is ∙ append-assoc passed since rest in
+        let whole =
+        sym x-is ∙ passed-first (r₃ .kept .0 .places) (r₃ .kept .1) refl ∙ ap (λ (xs : List ThreadNo). xs ++ rest) y-is ∙ append-assoc passed since rest in
         let before = ap (λ (xs : List ThreadNo). xs ++ e .thread ∷ exchanges step s₁ later) (passed-first (r .kept .0 .places) (r .kept .1) refl) in
         let split = append-assoc passed queue (e .thread ∷ exchanges step s₁ later) in
         (rest, append-cancel-left passed _ _ (sym split ∙ sym before ∙ whole))

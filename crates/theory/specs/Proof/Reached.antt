@@ -3,18 +3,17 @@
 -- Assumes nothing.
 use mathlib.Core.Bool.{Bool, cond, false, true}
 use mathlib.Core.List.{List, [], _∷_, _++_, append-assoc, append-nil}
-use mathlib.Core.Logic.{_≢_, by-cases}
-use mathlib.Core.Path.{_≡_, ap, refl, subst₂, sym, _∙_}
-use Prim.Native.Nat.{ℕ, zero, suc, _-_, _≤_, _<_}
+use mathlib.Core.Logic.{by-cases}
+use mathlib.Core.Path.{_≡_, ap, refl, subst₂, sym}
+use Prim.Native.Nat.{ℕ, zero, suc, _-_, _≤_}
 use native.Mathlib.Decide.{decLe, ℕ-discrete}
 use native.Mathlib.Omega.{arith}
-use lib.Dec.{eqb}
 use borrow.Author.Tests.{eq-eqb, le-leb, lt-leb, ne-eqb}
 use Rattle.ask.specs.Theorems.{count-none}
 use Rattle.events.specs.Events.{after}
 use Rattle.events.specs.declared.Event.{Event}
 use Rattle.figure.specs.Figure.{line}
-use Rattle.lock.specs.Fresh.{freshState, idle, idleTo, inSize}
+use Rattle.lock.specs.Fresh.{freshState, idle, idleTo}
 use Rattle.lock.specs.Laws.{nth-after-front, nth-front}
 use Rattle.lock.specs.State.{nth, tableSize, threadAt, zeroNode, zeroThread}
 use Rattle.lock.specs.Theorems.{fresh-valid}
@@ -37,8 +36,8 @@ use Rattle.theory.specs.Queue.Counts.{Counts, isAt}
 use Rattle.theory.specs.Queue.View.{lockedIn, nextIn, threadsIn, used-none, usedIn}
 use Rattle.theory.specs.Shape.Start.{order-start, shape-start}
 
--- A state, and the threads that have exchanged and passed on the way to it. Who owns which node, who took which place, and how many places were counted before the
--- state's own first, is given by some functions and a number that no statement names.
+-- A state, and the threads that have exchanged and passed on the way to it. Who owns which node, who took which place, and how many places were counted
+-- before the state's own first, is given by functions and a number that no statement names.
 pub record Reached (s : State) (exchanged passed : List ThreadNo) : Type 0 where
   pub valid : Valid s
   pub base : ℕ
@@ -100,7 +99,8 @@ module _ {s : State} {exchanged passed : List ThreadNo} (r : Reached s exchanged
       → Reached (step s t n .state) (noted exchange (line s t) t exchanged) (noted section (line s t) t passed)
   accepted-reached t n ok =
       let can = accepted-possible s t n (r .valid) ok in
-      let k = keeps (r .base) s t n (r .valid) can (r .owner) (r .taker) exchanged passed (r .kept) (r .counts) (step s t n .state) (sound s t n (r .valid) ok) in
+      let next = step s t n .state in
+      let k = keeps (r .base) s t n (r .valid) can (r .owner) (r .taker) exchanged passed (r .kept) (r .counts) next (sound s t n (r .valid) ok) in
       record { valid = valid-kept s t n (r .valid) ok; base = r .base; owner = k .owner′; taker = k .taker′; kept = k .kept′; counts = k .counts′ }
 
   -- a list of threads with the event's behind it, if it was accepted at line l

@@ -8,7 +8,7 @@ use mathlib.Core.Path.{_≡_, ap, refl, subst, sym, _∙_}
 use Prim.Native.Nat.{ℕ, _+_, _≤_}
 use native.Mathlib.Nat.{add-assoc}
 use native.Mathlib.Omega.{arith}
-use lib.Dec.{T, eqb}
+use lib.Dec.{eqb}
 use lib.ListN.{length}
 use borrow.Author.Tests.{eqb-false, eqb-true, ne-eqb}
 use Rattle.figure.specs.Figure.{_⟪flag≔_⟫, _⟪line_≔_⟫, _⟪locked_≔_⟫, _⟪low≔_⟫, _⟪tail≔_⟫}
@@ -44,7 +44,7 @@ use Rattle.theory.specs.Shape.Lines.{keeps23, keeps24, keeps25, keeps26,
 use Rattle.theory.specs.Shape.Memory.{Memory}
 use Rattle.theory.specs.Shape.Shape.{Shape}
 use Rattle.word.specs.Laws.{in-has-bit}
-use Rattle.word.specs.Word.{inUse, putIn, takeOut}
+use Rattle.word.specs.Word.{putIn, takeOut}
 
 -- what is kept: the shape of the queue, and the order of exchanges and passages
 abbrev pub Kept : List ThreadNo → List ThreadNo → Memory → (ℕ → Seen) → Type 0
@@ -54,7 +54,7 @@ Kept exchanged passed m th = Shape m th × Order 16 27 28 29 th (m .taker) (m .l
 abbrev pub noted : ℕ → ℕ → ThreadNo → List ThreadNo → List ThreadNo
 noted l at t xs = cond (eqb at l) (xs ++ t ∷ []) xs
 
--- a line of the queue at which the thread neither exchanges, nor passes, nor leaves
+-- a step from line l to line n by which the thread neither exchanges, nor passes, nor leaves
 pub record Quiet (l n : ℕ) : Type 0 where
   pub exchanges-not : l ≢ exchange
   pub passes-not : l ≢ section
@@ -154,14 +154,15 @@ module _ (base : ℕ) (s : State) (p : ThreadNo) (n : NodeNo) (rule : Valid s) (
         → s′ ≡ s ⟨shared≔ sh ⟩ ⟨node k ≔ nodeAt s k ⟨locked≔ b ⟩ ⟩ ⟨thread p ≔ w ⟩ → Keeps s′
     with-locked {s′} k f b h = reached _ s′ refl refl (Stored.stored-locked look base Kept′ owner′ taker′ s p inside sh w k (there k f) b h)
 
-  -- ---- the lines
+  -- ---- the lines that are not quiet, or that go two ways
 
   -- 15 and 21: nothing that is seen changes
   looks : (l x : ℕ) {s′ : State} → line s p ≡ l → l ≢ exchange → l ≢ section → onward x (prev s p .0) (succ s p .0) ≡ onward l (prev s p .0) (succ s p .0)
       → Balance 12 14 29 l x (s .shared) (s .shared) → s′ ≡ s ⟪line p ≔ x ⟫ → Keeps s′
   unfolding threadsIn
   looks l x {s′} e no-exchange no-passage same-line even q =
-      let same-view : view look base (v ⟨line≔ x ⟩) ≡ view look base v = ap (λ (k : ℕ). view look base v ⟦line≔ k ⟧) (same-line ∙ sym (seen-at base s p l e)) in
+      let same-view : view look base (v ⟨line≔ x ⟩) ≡ view look base v =
+      ap (λ (k : ℕ). view look base v ⟦line≔ k ⟧) (same-line ∙ sym (seen-at base s p l e)) in
       let seen = threads-kept look base (s .thread) (p .0) (v ⟨line≔ x ⟩) from to same-view in
       reached l e owner taker (s .shared) (v ⟨line≔ x ⟩) even (s ⟪line p ≔ x ⟫) s′ refl refl
       (rw (seen, e, ne-eqb l exchange no-exchange, ne-eqb l section no-passage) kept) q
@@ -174,14 +175,14 @@ module _ (base : ℕ) (s : State) (p : ThreadNo) (n : NodeNo) (rule : Valid s) (
   -- 27: the thread is at the front, and passes
   passes : line s p ≡ 27 → th (p .0) .line ≡ 27 → Order 16 27 28 29 (upd th (p .0) (th (p .0) ⟦line≔ 28 ⟧)) taker (m .low) (m .high) exchanged′ passed′
   passes e k =
-      let at-front = front m th shape (p .0) (omega arith) in
+      let at-front = front shape (p .0) (omega arith) in
       rw e (order-pass order (p .0) (th (p .0) ⟦line≔ 28 ⟧) (shape .places) (omega arith) (omega arith) (omega arith) (omega arith) at-front (omega arith))
 
   -- 29: the thread leaves the front
   leaves : line s p ≡ 29 → th (p .0) .line ≡ 29 → Order 16 27 28 29 (upd th (p .0) (th (p .0) ⟦line≔ 11 ⟧)) taker (m .low + 1) (m .high) exchanged′ passed′
   leaves e k =
       rw e (order-out order (p .0) (th (p .0) ⟦line≔ 11 ⟧) (shape .places) (omega arith) (omega arith) (λ x. omega arith) (λ x. omega arith)
-      (λ q x. front m th shape q (omega arith)))
+      (λ q x. front shape q (omega arith)))
 
   -- 22, by whether tail is my
   closes : (b : Bool) {s′ : State} → line s p ≡ 22 → same (tail s) (my s p) ≡ b
@@ -190,10 +191,11 @@ module _ (base : ℕ) (s : State) (p : ThreadNo) (n : NodeNo) (rule : Valid s) (
   closes true e t q =
       let k = at 22 e in
       plain 22 e owner taker (s .shared ⟨tail≔ bottom ⟩) (v ⟨line≔ 25 ⟩) (omega arith) refl
-      (keeps22-closes m th shape (p .0) k (eqb-true _ _ t), quiet 22 e k _ refl (omega arith)) q
+      (keeps22-closes shape (p .0) k (eqb-true _ _ t), quiet 22 e k _ refl (omega arith)) q
   closes false e t q =
       let k = at 22 e in
-      plain 22 e owner taker (s .shared) (v ⟨line≔ 23 ⟩) (omega arith) refl (keeps22-waits m th shape (p .0) k (eqb-false _ _ t), quiet 22 e k _ refl (omega arith)) q
+      plain 22 e owner taker (s .shared) (v ⟨line≔ 23 ⟩) (omega arith) refl
+      (keeps22-waits shape (p .0) k (eqb-false _ _ t), quiet 22 e k _ refl (omega arith)) q
 
   -- 29, by whether succ is 0
   hands-on : (b : Bool) {s′ : State} → line s p ≡ 29 → isBottom (succ s p) ≡ b
@@ -202,76 +204,80 @@ module _ (base : ℕ) (s : State) (p : ThreadNo) (n : NodeNo) (rule : Valid s) (
   hands-on true e t q =
       let k = at 29 e in
       plain 29 e owner taker (s .shared ⟨flag≔ 1 ⟩ ⟨low≔ behind (low s) ⟩) (v ⟨line≔ 11 ⟩) (omega arith) refl
-      (rw (← add-assoc base (low s .0) 1) (keeps29-raises m th shape (p .0) k (eqb-true _ _ t), leaves e k)) q
+      (rw (← add-assoc base (low s .0) 1) (keeps29-raises shape (p .0) k (eqb-true _ _ t), leaves e k)) q
   hands-on false e t q =
       let k = at 29 e in
       with-locked 29 e owner taker (s .shared ⟨low≔ behind (low s) ⟩) (v ⟨line≔ 11 ⟩) (omega arith) (succ s p) (succ-at e (eqb-false _ _ t) refl) 0
-      (rw (← add-assoc base (low s .0) 1) (keeps29-unlocks m th shape (p .0) k (eqb-false _ _ t), leaves e k)) q
+      (rw (← add-assoc base (low s .0) 1) (keeps29-unlocks shape (p .0) k (eqb-false _ _ t), leaves e k)) q
 
+  -- ---- every line
   pub keeps : (s′ : State) → Figure p n s s′ → Keeps s′
   unfolding threadsIn nextIn lockedIn
   keeps s′ (line11 e some unused q) =
       let k = at 11 e in
       plain 11 e (upd owner (n .0) (p .0)) taker (s .shared ⟨used≔ putIn (local s) n ⟩ ⟨entered≔ entered s + 1 ⟩) (v ⟨my≔ n ⟩ ⟨line≔ 12 ⟩) (omega arith)
       (used-put (local s) n (omega arith) (omega (arith, can .within e, rule .shared .nodes)))
-      (keeps11 m th shape (p .0) (n .0) k (omega arith) (used-not (local s) n unused), quiet 11 e k _ refl (omega arith))
+      (keeps11 shape (p .0) (n .0) k (omega arith) (used-not (local s) n unused), quiet 11 e k _ refl (omega arith))
       (q ∙ simp (thread-there, set-twice))
   keeps s′ (line12 e q) =
       let k = at 12 e in
       with-next 12 e owner taker (s .shared) (v ⟨line≔ 13 ⟩) (omega arith) (my s p) (my-at (rw e tt) refl) bottom
-      (keeps12 m th shape (p .0) k, quiet 12 e k _ refl (omega arith)) q
+      (keeps12 shape (p .0) k, quiet 12 e k _ refl (omega arith)) q
   keeps s′ (line13 e q) =
       let k = at 13 e in
       with-locked 13 e owner taker (s .shared) (v ⟨line≔ 14 ⟩) (omega arith) (my s p) (my-at (rw e tt) refl) 1
-      (keeps13 m th shape (p .0) k, quiet 13 e k _ refl (omega arith)) q
+      (keeps13 shape (p .0) k, quiet 13 e k _ refl (omega arith)) q
   keeps s′ (line14 e q) =
       let k = at 14 e in
-      plain 14 e owner (upd taker (m .high) (p .0)) (s .shared ⟨tail≔ my s p ⟩ ⟨high≔ behind (high s) ⟩) (v ⟨prev≔ tail s ⟩ ⟨slot≔ high s ⟩ ⟨line≔ 15 ⟩) (omega arith) refl
+      plain 14 e owner (upd taker (m .high) (p .0)) (s .shared ⟨tail≔ my s p ⟩ ⟨high≔ behind (high s) ⟩)
+      (v ⟨prev≔ tail s ⟩ ⟨slot≔ high s ⟩ ⟨line≔ 15 ⟩) (omega arith) refl
       (rw (← add-assoc base (high s .0) 1)
-      (keeps14 m th shape (p .0) k, exchanges e _ (one-of (isBottom (tail s)) (In 16 18) 16 18 (omega arith) (omega arith)) refl))
+      (keeps14 shape (p .0) k, exchanges e _ (one-of (isBottom (tail s)) (In 16 18) 16 18 (omega arith) (omega arith)) refl))
       (q ∙ simp (thread-there, set-twice))
-  keeps s′ (line15 e q) = looks 15 _ e (omega arith) (omega arith) (goes-on (isBottom (prev s p)) 16 18 (prev s p .0) (succ s p .0) refl refl)
+  keeps s′ (line15 e q) =
+      looks 15 _ e (omega arith) (omega arith) (goes-on (isBottom (prev s p)) 16 18 (prev s p .0) (succ s p .0) refl refl)
       (one-of (isBottom (prev s p)) (λ (x : ℕ). Balance 12 14 29 15 x (s .shared) (s .shared)) 16 18 (omega arith) (omega arith)) q
   keeps s′ (line16 e raised q) =
       let k = at 16 e in
-      plain 16 e owner taker (s .shared) (v ⟨line≔ 17 ⟩) (omega arith) refl (keeps16 m th shape (p .0) k raised, quiet 16 e k _ refl (omega arith)) q
+      plain 16 e owner taker (s .shared) (v ⟨line≔ 17 ⟩) (omega arith) refl (keeps16 shape (p .0) k raised, quiet 16 e k _ refl (omega arith)) q
   keeps s′ (line17 e q) =
       let k = at 17 e in
-      plain 17 e owner taker (s .shared ⟨flag≔ 0 ⟩) (v ⟨line≔ 20 ⟩) (omega arith) refl (keeps17 m th shape (p .0) k, quiet 17 e k _ refl (omega arith)) q
+      plain 17 e owner taker (s .shared ⟨flag≔ 0 ⟩) (v ⟨line≔ 20 ⟩) (omega arith) refl (keeps17 shape (p .0) k, quiet 17 e k _ refl (omega arith)) q
   keeps s′ (line18 e q) =
       let k = at 18 e in
       with-next 18 e owner taker (s .shared) (v ⟨line≔ 19 ⟩) (omega arith) (prev s p) (prev-at e refl) (my s p)
-      (keeps18 m th shape (p .0) k, quiet 18 e k _ refl (omega arith)) q
+      (keeps18 shape (p .0) k, quiet 18 e k _ refl (omega arith)) q
   keeps s′ (line19 e unlocked q) =
       let k = at 19 e in
-      plain 19 e owner taker (s .shared) (v ⟨line≔ 20 ⟩) (omega arith) refl (keeps19 m th shape (p .0) k unlocked, quiet 19 e k _ refl (omega arith)) q
+      plain 19 e owner taker (s .shared) (v ⟨line≔ 20 ⟩) (omega arith) refl (keeps19 shape (p .0) k unlocked, quiet 19 e k _ refl (omega arith)) q
   keeps s′ (line20 e q) =
       let k = at 20 e in
       let goes : In 22 25 (cond (isBottom (next s (my s p))) 22 25) = one-of (isBottom (next s (my s p))) (In 22 25) 22 25 (omega arith) (omega arith) in
       plain 20 e owner taker (s .shared) (v ⟨nxmy≔ next s (my s p) ⟩ ⟨succ≔ next s (my s p) ⟩ ⟨line≔ 21 ⟩) (omega arith) refl
-      (keeps20 m th shape (p .0) k, quiet 20 e k _ refl (omega arith)) (q ∙ simp (thread-there, set-twice))
-  keeps s′ (line21 e q) = looks 21 _ e (omega arith) (omega arith) (goes-on (isBottom (succ s p)) 22 25 (prev s p .0) (succ s p .0) refl refl)
+      (keeps20 shape (p .0) k, quiet 20 e k _ refl (omega arith)) (q ∙ simp (thread-there, set-twice))
+  keeps s′ (line21 e q) =
+      looks 21 _ e (omega arith) (omega arith) (goes-on (isBottom (succ s p)) 22 25 (prev s p .0) (succ s p .0) refl refl)
       (one-of (isBottom (succ s p)) (λ (x : ℕ). Balance 12 14 29 21 x (s .shared) (s .shared)) 22 25 (omega arith) (omega arith)) q
   keeps s′ (line22 e q) = closes (same (tail s) (my s p)) e refl q
   keeps s′ (line23 e linked q) =
       let k = at 23 e in
-      plain 23 e owner taker (s .shared) (v ⟨line≔ 24 ⟩) (omega arith) refl (keeps23 m th shape (p .0) k linked, quiet 23 e k _ refl (omega arith)) q
+      plain 23 e owner taker (s .shared) (v ⟨line≔ 24 ⟩) (omega arith) refl (keeps23 shape (p .0) k linked, quiet 23 e k _ refl (omega arith)) q
   keeps s′ (line24 e q) =
       let k = at 24 e in
       plain 24 e owner taker (s .shared) (v ⟨nxmy≔ next s (my s p) ⟩ ⟨succ≔ next s (my s p) ⟩ ⟨line≔ 25 ⟩) (omega arith) refl
-      (keeps24 m th shape (p .0) k, quiet 24 e k _ refl (omega arith)) (q ∙ simp (thread-there, set-twice))
+      (keeps24 shape (p .0) k, quiet 24 e k _ refl (omega arith)) (q ∙ simp (thread-there, set-twice))
   keeps s′ (line25 e q) =
       let k = at 25 e in
-      plain 25 e owner taker (s .shared ⟨mess≔ succ s p ⟩) (v ⟨line≔ 26 ⟩) (omega arith) refl (keeps25 m th shape (p .0) k, quiet 25 e k _ refl (omega arith)) q
+      plain 25 e owner taker (s .shared ⟨mess≔ succ s p ⟩) (v ⟨line≔ 26 ⟩) (omega arith) refl (keeps25 shape (p .0) k, quiet 25 e k _ refl (omega arith)) q
   keeps s′ (line26 e q) =
       let k = at 26 e in
       plain 26 e owner taker (s .shared ⟨used≔ takeOut (local s) (my s p) ⟩) (v ⟨succ≔ bottom ⟩ ⟨line≔ 27 ⟩) (omega arith) (used-taken (local s) (my s p))
-      (keeps26 m th shape (p .0) k, quiet 26 e k _ refl (omega arith)) (q ∙ simp (thread-there, set-twice))
+      (keeps26 shape (p .0) k, quiet 26 e k _ refl (omega arith)) (q ∙ simp (thread-there, set-twice))
   keeps s′ (line27 e q) =
       let k = at 27 e in
-      plain 27 e owner taker (s .shared) (v ⟨line≔ 28 ⟩) (omega arith) refl (keeps27 m th shape (p .0) k, passes e k) q
+      plain 27 e owner taker (s .shared) (v ⟨line≔ 28 ⟩) (omega arith) refl (keeps27 shape (p .0) k, passes e k) q
   keeps s′ (line28 e q) =
       let k = at 28 e in
       plain 28 e owner taker (s .shared) (v ⟨succ≔ mess s ⟩ ⟨line≔ 29 ⟩) (omega arith) refl
-      (keeps28 m th shape (p .0) k, quiet 28 e k _ refl (omega arith)) (q ∙ simp (thread-there, set-twice))
+      (keeps28 shape (p .0) k, quiet 28 e k _ refl (omega arith)) (q ∙ simp (thread-there, set-twice))
   keeps s′ (line29 e q) = hands-on (isBottom (succ s p)) e refl q

@@ -2,7 +2,7 @@
 -- machine on states like ours (`look` says at which line it sees a thread). A line stores the shared numbers and its thread, and besides these nothing,
 -- next of one node, or locked of one node. Rests on Queue/View. Assumes nothing.
 use mathlib.Core.Path.{_≡_, refl}
-use Prim.Native.Nat.{ℕ, _+_, _≤_}
+use Prim.Native.Nat.{ℕ, _+_}
 use lib.ListN.{length}
 use Rattle.lock.specs.State.{_⟨locked≔_⟩, _⟨next≔_⟩, _⟨node_≔_⟩, _⟨shared≔_⟩, _⟨thread_≔_⟩, nodeAt}
 use Rattle.lock.specs.Valid.{Between}

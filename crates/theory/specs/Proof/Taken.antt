@@ -1,16 +1,15 @@
--- The figure's own steps from a fresh lock and the events that the step accepts are the same: what a step of the figure needs besides to be accepted, that followed
--- nodes are in use and places remain, every reached state has. Rests on Reached, Follows and the step's `complete` and `sound`. Assumes nothing.
-use mathlib.Core.Bool.{Bool, true}
+-- The figure's own steps from a fresh lock and the events that the step accepts are the same: what a step of the figure needs besides to be accepted, that
+-- followed nodes are in use and places remain, every reached state has. Rests on Reached, Follows and the step's `complete` and `sound`. Assumes nothing.
+use mathlib.Core.Bool.{true}
 use mathlib.Core.List.{List, [], _∷_}
 use mathlib.Core.Logic.{_≢_, by-cases, inl, inr}
-use mathlib.Core.Path.{_≡_, ap, refl, subst, sym, _∙_}
-use Prim.Native.Nat.{ℕ, _≤_, _<_}
+use mathlib.Core.Path.{_≡_, ap, refl, subst, sym}
 use native.Mathlib.Decide.{ℕ-discrete}
 use native.Mathlib.Omega.{arith}
 use borrow.Author.Tests.{eq-eqb, ne-eqb}
 use Rattle.events.specs.Events.{acceptsAll, after}
 use Rattle.events.specs.declared.Event.{Event}
-use Rattle.figure.specs.Figure.{Figure, high, line, low}
+use Rattle.figure.specs.Figure.{Figure, high, low}
 use Rattle.lock.specs.declared.State.{State}
 use Rattle.number.specs.Refused.{done}
 use Rattle.number.specs.Sizes.{lastPlace}
@@ -64,10 +63,10 @@ pub done-are-figure : {s : State} {exchanged passed : List ThreadNo} → Reached
 unfolding doneOf after
 done-are-figure r [] = no-steps
 done-are-figure {s} r (e ∷ es) =
+    let t = step s (e .thread) (e .node) in
     let later = done-are-figure (event-reached r e) es in
-    by-cases (ℕ-discrete (step s (e .thread) (e .node) .answer) done)
-    (λ ok. rw (eq-eqb (step s (e .thread) (e .node) .answer) done ok) (one-step (within r e ok) (sound s (e .thread) (e .node) (r .valid) ok) later))
+    by-cases (ℕ-discrete (t .answer) done)
+    (λ ok. rw (eq-eqb (t .answer) done ok) (one-step (within r e ok) (sound s (e .thread) (e .node) (r .valid) ok) later))
     (λ no.
     let same = refused-unchanged s (e .thread) (e .node) no in
-    rw (ne-eqb (step s (e .thread) (e .node) .answer) done no)
-    (subst (λ (x : State). FigureSteps x (doneOf step (step s (e .thread) (e .node) .state) es) (after step (step s (e .thread) (e .node) .state) es)) same later))
+    rw (ne-eqb (t .answer) done no) (subst (λ (x : State). FigureSteps x (doneOf step (t .state) es) (after step (t .state) es)) same later))

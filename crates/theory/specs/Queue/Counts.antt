@@ -1,10 +1,9 @@
--- Counts. A thread chooses its node and goes to line a, exchanges the tail at line b, and is in the queue then up to line c. Every choice is counted by entered,
--- every exchange by high, every leaving by low: so entered is high - 1 and the threads at a to b, and high is low and the threads behind b up to c. For any
--- machine: the lines are parameters. A step changes one thread and some of the three numbers, and it keeps the counts if it is balanced.
--- Assumes nothing.
+-- Counts. A thread chooses its node and goes to line a, exchanges the tail at line b, and is in the queue then up to line c. Every choice is counted by
+-- entered, every exchange by high, every leaving by low: so entered is high - 1 and the number of threads at a to b, and high is low and the number of
+-- threads behind b up to c. For any machine: the lines are parameters. A step changes one thread and some of the three numbers, and it keeps the counts if
+-- it is balanced. Assumes nothing.
 use mathlib.Core.Bool.{Bool, cond, _&&_}
-use mathlib.Core.List.{List}
-use mathlib.Core.Path.{_≡_, sym, _∙_}
+use mathlib.Core.Path.{_≡_}
 use Prim.Native.Nat.{ℕ, suc, _+_}
 use native.Mathlib.Omega.{arith}
 use lib.Dec.{leb}

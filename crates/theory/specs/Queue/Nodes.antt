@@ -1,5 +1,5 @@
--- Nodes in use. The threads at the lines `first` to `last` own one node each, and these are the nodes in use. For any machine: the lines are parameters. As with
--- places, `owner` gives who chose a node, and a thread is the owner of its own; so no two threads own one node. A step does nothing to it
+-- Nodes in use. The threads at the lines `first` to `last` own one node each, and these are the nodes in use. For any machine: the lines are parameters. As
+-- with places, `owner` gives who chose a node, and a thread is the owner of its own; so no two threads own one node. A step does nothing to them
 -- (`nodes-stay`), puts one node in use (`nodes-in`), or takes one out (`nodes-out`). Assumes nothing.
 use mathlib.Core.Logic.{_≢_}
 use mathlib.Core.Path.{_≡_, refl, sym}

@@ -1,18 +1,16 @@
--- From an exchange on, as long as its thread has not passed, every thread passes at most once. The threads that have exchanged and not passed stand in the list of
--- exchanges behind those that have passed; no two of them are the same, since they have different places. Who passes before the last of them is one of
--- them. For any machine with Places and Order. Assumes nothing.
+-- From an exchange on, as long as its thread has not passed, every thread passes at most once. The threads that have exchanged and not passed stand in the
+-- list of exchanges behind those that have passed; no two of them are the same, since they have different places. Who passes before a thread that
+-- exchanges behind them is one of them. For any machine with Places and Order. Assumes nothing.
 use mathlib.Core.Bool.{Bool, cond, false, true}
 use mathlib.Core.List.{List, [], _∷_, _++_}
-use mathlib.Core.Logic.{_≢_}
 use mathlib.Core.Path.{_≡_, ap, refl, sym, _∙_}
-use Prim.Native.Nat.{ℕ, zero, suc, _+_, _-_, _≤_, _<_}
+use Prim.Native.Nat.{ℕ, suc, _+_, _-_, _≤_, _<_}
 use native.Mathlib.Decide.{decLe, decLt, ℕ-discrete}
 use native.Mathlib.Omega.{arith}
 use lib.Dec.{eqb}
 use lib.ListN.{drop, getD, length, length-drop, take-append-drop}
 use lib.Seq.{getD-drop}
 use borrow.Author.Tests.{eqb-false, eqb-true}
-use Rattle.number.specs.Numbers.{thread}
 use Rattle.number.specs.declared.ThreadNo.{ThreadNo}
 use Rattle.theory.specs.Demands.{Prefix, howOften}
 use Rattle.theory.specs.Queue.AtLines.{In}

@@ -1,6 +1,6 @@
--- A state's tables, as the theory sees them: functions of a number. `look` says at which line a machine sees a thread, and `base` how many places have been taken
--- off a state's own numbers (0, unless its places were counted anew on the way). Then what a store changes of what is seen: one value, or
--- nothing at all. Assumes nothing.
+-- A state's tables, as the theory sees them: functions of a number. `look` says at which line a machine sees a thread, and `base` how many places have been
+-- taken off a state's own numbers (0, unless its places were counted anew on the way). Then what a store changes of what is seen: one value, or nothing
+-- at all. Assumes nothing.
 use mathlib.Core.Bool.{Bool, cond, false, true}
 use mathlib.Core.List.{List}
 use mathlib.Core.Path.{_≡_, ap, fun-ext, refl, sym, _∙_}

@@ -24,7 +24,7 @@ pub record Able (m : Memory) (v : Seen) : Type 0 where
   pub unlocked : v .line ≡ 19 → m .locked (v .my) ≡ 0
   pub linked : v .line ≡ 23 → m .next (v .my) ≢ 0
 
-module _ (m : Memory) (th : ℕ → Seen) (i : Shape m th) where
+module _ {m : Memory} {th : ℕ → Seen} (i : Shape m th) where
   -- ---- the nodes that a line follows
 
   -- my, at every line that follows it

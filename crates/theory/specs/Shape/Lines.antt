@@ -22,7 +22,7 @@ use Rattle.theory.specs.Shape.Moves.{readies, turn-behind}
 use Rattle.theory.specs.Shape.Neighbours.{at-place, before-18, behind-29, behind-29-none, front-16, tail-last}
 use Rattle.theory.specs.Shape.Shape.{Last, Link, Own, Shape, Shared, Turn}
 
-module _ (m : Memory) (th : ℕ → Seen) (i : Shape m th) (p : ℕ) where
+module _ {m : Memory} {th : ℕ → Seen} (i : Shape m th) (p : ℕ) where
   -- locked is 0 or 1 everywhere, also where one of these is stored in it
   store-range : (n x : ℕ) → x ≤ 1 → (k : ℕ) → upd (m .locked) n x k ≤ 1
   store-range n x h = by n (rw upd-same h) (λ k d. rw upd-other (i .shared .locked-range k))
