@@ -30,9 +30,9 @@ use Rattle.step.specs.Step.{step}
 use Rattle.step.specs.Theorems.{accepted-possible, refused-unchanged, sound, valid-kept}
 use Rattle.theory.specs.Demands.{acceptedAt, doneAt, exchange, exchanges, passages, section}
 use Rattle.theory.specs.Proof.Look.{look, threadsOf}
-use Rattle.theory.specs.Proof.Steps.{Kept, keeps, noted}
+use Rattle.theory.specs.Proof.Steps.{Counted, Kept, keeps, noted}
 use Rattle.theory.specs.Proof.Stored.{Of}
-use Rattle.theory.specs.Queue.Counts.{Counts, isAt}
+use Rattle.theory.specs.Queue.Counts.{isAt}
 use Rattle.theory.specs.Queue.View.{lockedIn, nextIn, threadsIn, used-none, usedIn}
 use Rattle.theory.specs.Shape.Start.{order-start, shape-start}
 
@@ -44,7 +44,7 @@ pub record Reached (s : State) (exchanged passed : List ThreadNo) : Type 0 where
   pub owner : ℕ → ℕ
   pub taker : ℕ → ℕ
   pub kept : Of look base (Kept exchanged passed) owner taker s
-  pub counts : Counts 12 14 29 s
+  pub counts : Counted s
 
 -- ---- a fresh lock
 module _ (T K : ℕ) (threads : Between 1 T mostThreads) (nodes : Between 1 K mostNodes) where

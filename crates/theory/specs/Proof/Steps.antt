@@ -35,20 +35,27 @@ use Rattle.theory.specs.Proof.Stored.{Of, memoryOf, memoryWith}
 use Rattle.theory.specs.Queue.AtLines.{In}
 use Rattle.theory.specs.Queue.Counts.{Balance, Counts, counts-kept}
 use Rattle.theory.specs.Queue.Functions.{upd}
-use Rattle.theory.specs.Queue.Order.{Order, order-in, order-out, order-pass, order-stay}
+use Rattle.theory.specs.Queue.Order.{order-in, order-out, order-pass, order-stay}
 use Rattle.theory.specs.Queue.Seen.{Seen, _⟦line≔_⟧}
 use Rattle.theory.specs.Queue.View.{lockedIn, nextIn, threads-kept, threadsIn, used-not, used-put, used-taken, usedIn, view}
 use Rattle.theory.specs.Shape.Goes.{front}
 use Rattle.theory.specs.Shape.Lines.{keeps11, keeps12, keeps13, keeps14, keeps16, keeps17, keeps18, keeps19, keeps20, keeps22-closes, keeps22-waits}
 use Rattle.theory.specs.Shape.Lines.{keeps23, keeps24, keeps25, keeps26, keeps27, keeps28, keeps29-raises, keeps29-unlocks}
 use Rattle.theory.specs.Shape.Memory.{Memory}
-use Rattle.theory.specs.Shape.Shape.{Shape}
+use Rattle.theory.specs.Shape.Shape.{Ordered, Shape}
 use Rattle.word.specs.Laws.{in-has-bit}
 use Rattle.word.specs.Word.{putIn, takeOut}
 
 -- what is kept: the shape of the queue, and the order of exchanges and passages
 abbrev pub Kept : List ThreadNo → List ThreadNo → Memory → (ℕ → Seen) → Type 0
-Kept exchanged passed m th = Shape m th × Order 16 27 28 29 th (m .taker) (m .low) (m .high) exchanged passed
+Kept exchanged passed m th = Shape m th × Ordered th (m .taker) (m .low) (m .high) exchanged passed
+
+-- the counts, by the lines of this machine: at 12 the node is chosen, 14 is the exchange, and 29 the last line of the queue
+abbrev pub Counted : State → Type 0
+Counted s = Counts 12 14 29 s
+
+abbrev Balanced : ℕ → ℕ → Shared → Shared → Type 0
+Balanced l n sh sh′ = Balance 12 14 29 l n sh sh′
 
 -- a list of threads with t behind it, if its step was at line l
 abbrev pub noted : ℕ → ℕ → ThreadNo → List ThreadNo → List ThreadNo
@@ -62,7 +69,7 @@ pub record Quiet (l n : ℕ) : Type 0 where
   pub behind-section : In 28 29 n → In 28 29 l
 
 module _ (base : ℕ) (s : State) (p : ThreadNo) (n : NodeNo) (rule : Valid s) (can : Possible s p n) (owner taker : ℕ → ℕ)
-    (exchanged passed : List ThreadNo) (kept : Of look base (Kept exchanged passed) owner taker s) (counts : Counts 12 14 29 s) where
+    (exchanged passed : List ThreadNo) (kept : Of look base (Kept exchanged passed) owner taker s) (counts : Counted s) where
   abbrev m : Memory
   m = memoryOf base s owner taker
 
@@ -87,13 +94,13 @@ module _ (base : ℕ) (s : State) (p : ThreadNo) (n : NodeNo) (rule : Valid s) (
     pub owner′ : ℕ → ℕ
     pub taker′ : ℕ → ℕ
     pub kept′ : Of look base Kept′ owner′ taker′ s′
-    pub counts′ : Counts 12 14 29 s′
+    pub counts′ : Counted s′
 
   -- ---- what is known before it
   shape : Shape m th
   shape = kept .0
 
-  order : Order 16 27 28 29 th taker (m .low) (m .high) exchanged passed
+  order : Ordered th taker (m .low) (m .high) exchanged passed
   order = kept .1
 
   from : 1 ≤ p .0
@@ -120,13 +127,13 @@ module _ (base : ℕ) (s : State) (p : ThreadNo) (n : NodeNo) (rule : Valid s) (
 
   -- at a quiet line nothing is noted, and the places stay
   quiet : (l : ℕ) → line s p ≡ l → th (p .0) .line ≡ l → (w : Seen) → w .slot ≡ th (p .0) .slot → Quiet l (w .line)
-      → Order 16 27 28 29 (upd th (p .0) w) taker (m .low) (m .high) exchanged′ passed′
+      → Ordered (upd th (p .0) w) taker (m .low) (m .high) exchanged′ passed′
   quiet l e k w slot-stays h =
       rw (e, ne-eqb l exchange (h .exchanges-not), ne-eqb l section (h .passes-not))
       (order-stay order (p .0) w (λ x. rw k (h .up-to-section x)) (λ x. rw k (h .behind-section x)) slot-stays)
 
   -- ---- the stores of a step at line l, after which p is w: what is seen then, and that the counts are kept if the step is balanced
-  module _ (l : ℕ) (e : line s p ≡ l) (owner′ taker′ : ℕ → ℕ) (sh : Shared) (w : Thread) (even : Balance 12 14 29 l (w .line) (s .shared) sh) where
+  module _ (l : ℕ) (e : line s p ≡ l) (owner′ taker′ : ℕ → ℕ) (sh : Shared) (w : Thread) (even : Balanced l (w .line) (s .shared) sh) where
     abbrev threads′ : ℕ → Seen
     threads′ = upd th (p .0) (view look base w)
 
@@ -158,7 +165,7 @@ module _ (base : ℕ) (s : State) (p : ThreadNo) (n : NodeNo) (rule : Valid s) (
 
   -- 15 and 21: nothing that is seen changes
   looks : (l x : ℕ) {s′ : State} → line s p ≡ l → l ≢ exchange → l ≢ section → onward x (prev s p .0) (succ s p .0) ≡ onward l (prev s p .0) (succ s p .0)
-      → Balance 12 14 29 l x (s .shared) (s .shared) → s′ ≡ s ⟪line p ≔ x ⟫ → Keeps s′
+      → Balanced l x (s .shared) (s .shared) → s′ ≡ s ⟪line p ≔ x ⟫ → Keeps s′
   unfolding threadsIn
   looks l x {s′} e no-exchange no-passage same-line even q =
       let same-view : view look base (v ⟨line≔ x ⟩) ≡ view look base v =
@@ -169,17 +176,17 @@ module _ (base : ℕ) (s : State) (p : ThreadNo) (n : NodeNo) (rule : Valid s) (
 
   -- 14: the thread takes the next place
   exchanges : line s p ≡ 14 → (w : Seen) → In 16 18 (w .line) → w .slot ≡ m .high
-      → Order 16 27 28 29 (upd th (p .0) w) (upd taker (m .high) (p .0)) (m .low) (m .high + 1) exchanged′ passed′
+      → Ordered (upd th (p .0) w) (upd taker (m .high) (p .0)) (m .low) (m .high + 1) exchanged′ passed′
   exchanges e w h slot-is = rw e (order-in order (p .0) w (omega arith) (λ x. omega arith) (shape .places .order) slot-is)
 
   -- 27: the thread is at the front, and passes
-  passes : line s p ≡ 27 → th (p .0) .line ≡ 27 → Order 16 27 28 29 (upd th (p .0) (th (p .0) ⟦line≔ 28 ⟧)) taker (m .low) (m .high) exchanged′ passed′
+  passes : line s p ≡ 27 → th (p .0) .line ≡ 27 → Ordered (upd th (p .0) (th (p .0) ⟦line≔ 28 ⟧)) taker (m .low) (m .high) exchanged′ passed′
   passes e k =
       let at-front = front shape (p .0) (omega arith) in
       rw e (order-pass order (p .0) (th (p .0) ⟦line≔ 28 ⟧) (shape .places) (omega arith) (omega arith) (omega arith) (omega arith) at-front (omega arith))
 
   -- 29: the thread leaves the front
-  leaves : line s p ≡ 29 → th (p .0) .line ≡ 29 → Order 16 27 28 29 (upd th (p .0) (th (p .0) ⟦line≔ 11 ⟧)) taker (m .low + 1) (m .high) exchanged′ passed′
+  leaves : line s p ≡ 29 → th (p .0) .line ≡ 29 → Ordered (upd th (p .0) (th (p .0) ⟦line≔ 11 ⟧)) taker (m .low + 1) (m .high) exchanged′ passed′
   leaves e k =
       rw e (order-out order (p .0) (th (p .0) ⟦line≔ 11 ⟧) (shape .places) (omega arith) (omega arith) (λ x. omega arith) (λ x. omega arith)
       (λ q x. front shape q (omega arith)))
@@ -236,7 +243,7 @@ module _ (base : ℕ) (s : State) (p : ThreadNo) (n : NodeNo) (rule : Valid s) (
       (q ∙ simp (thread-there, set-twice))
   keeps s′ (line15 e q) =
       looks 15 _ e (omega arith) (omega arith) (goes-on (isBottom (prev s p)) 16 18 (prev s p .0) (succ s p .0) refl refl)
-      (one-of (isBottom (prev s p)) (λ (x : ℕ). Balance 12 14 29 15 x (s .shared) (s .shared)) 16 18 (omega arith) (omega arith)) q
+      (one-of (isBottom (prev s p)) (λ (x : ℕ). Balanced 15 x (s .shared) (s .shared)) 16 18 (omega arith) (omega arith)) q
   keeps s′ (line16 e raised q) =
       let k = at 16 e in
       plain 16 e owner taker (s .shared) (v ⟨line≔ 17 ⟩) (omega arith) refl (keeps16 shape (p .0) k raised, quiet 16 e k _ refl (omega arith)) q
@@ -257,7 +264,7 @@ module _ (base : ℕ) (s : State) (p : ThreadNo) (n : NodeNo) (rule : Valid s) (
       (keeps20 shape (p .0) k, quiet 20 e k _ refl (omega arith)) (q ∙ simp (thread-there, set-twice))
   keeps s′ (line21 e q) =
       looks 21 _ e (omega arith) (omega arith) (goes-on (isBottom (succ s p)) 22 25 (prev s p .0) (succ s p .0) refl refl)
-      (one-of (isBottom (succ s p)) (λ (x : ℕ). Balance 12 14 29 21 x (s .shared) (s .shared)) 22 25 (omega arith) (omega arith)) q
+      (one-of (isBottom (succ s p)) (λ (x : ℕ). Balanced 21 x (s .shared) (s .shared)) 22 25 (omega arith) (omega arith)) q
   keeps s′ (line22 e q) = closes (same (tail s) (my s p)) e refl q
   keeps s′ (line23 e linked q) =
       let k = at 23 e in

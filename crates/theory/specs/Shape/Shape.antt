@@ -2,12 +2,15 @@
 -- and with a picture. A thread at 15 or 21, which only looks, is seen at the line it goes on to; so the queue is the threads at 16 to 29, and the
 -- lines of it that differ are few: 16 and 17 (nobody before it in the queue as it exchanged), 18 and 19 (somebody before it), and 20 to 29 (inside).
 -- Lines.antt proves that each line keeps the shape, Start.antt that a fresh lock has it, Goes.antt what follows. Assumes nothing.
+use mathlib.Core.List.{List}
 use mathlib.Core.Logic.{_≢_}
 use mathlib.Core.Path.{_≡_}
 use Prim.Native.Nat.{ℕ, _+_, _≤_, _<_}
+use Rattle.number.specs.declared.ThreadNo.{ThreadNo}
 use Rattle.theory.specs.Queue.AtLines.{At, In}
 use Rattle.theory.specs.Queue.Links.{Links}
 use Rattle.theory.specs.Queue.Nodes.{Nodes}
+use Rattle.theory.specs.Queue.Order.{Order}
 use Rattle.theory.specs.Queue.Places.{Places}
 use Rattle.theory.specs.Queue.Seen.{Seen}
 use Rattle.theory.specs.Shape.Memory.{Memory}
@@ -103,3 +106,7 @@ pub record Shape (m : Memory) (th : ℕ → Seen) : Type 0 where
   pub nodes : Nodes 12 26 th (m .used) (m .owner)
   pub own : (q : ℕ) → Own m (th q)
   pub links : Links 16 29 Link Last th (m .next) (m .tail) (m .high)
+
+-- the order of exchanges and passages: the queue up to the section, and behind it
+abbrev pub Ordered : (ℕ → Seen) → (ℕ → ℕ) → ℕ → ℕ → List ThreadNo → List ThreadNo → Type 0
+Ordered th taker low high exchanged passed = Order 16 27 28 29 th taker low high exchanged passed

@@ -5,9 +5,8 @@ use mathlib.Core.Path.{_≡_, refl}
 use Prim.Native.Nat.{ℕ, _≤_}
 use native.Mathlib.Omega.{arith}
 use Rattle.theory.specs.Queue.AtLines.{At, put}
-use Rattle.theory.specs.Queue.Order.{Order}
 use Rattle.theory.specs.Queue.Seen.{Seen}
-use Rattle.theory.specs.Shape.Shape.{Shape}
+use Rattle.theory.specs.Shape.Shape.{Ordered, Shape}
 
 -- `next` of a node is whatever it is: line 12 stores in it before anybody reads it
 module _ (th : ℕ → Seen) (used next locked : ℕ → ℕ)
@@ -45,7 +44,7 @@ module _ (th : ℕ → Seen) (used next locked : ℕ → ℕ)
   }
 
   -- nobody has exchanged the tail, and nobody has passed
-  pub order-start : Order 16 27 28 29 th (λ _. 0) 1 1 [] []
+  pub order-start : Ordered th (λ _. 0) 1 1 [] []
   order-start = record {
     size = refl;
     names = λ k x. absurd (omega arith);
