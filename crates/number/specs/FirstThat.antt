@@ -121,6 +121,16 @@ first-at-most m (r ∷ rs) h = go (first-at-most m rs (h .1)) (r .applies)
     go later true = h .0
     go later false = later
 
+-- ---- what holds of 0, and of each number whose condition applies, holds of the first that applies
+abbrev pub AllGiven : (ℕ → Type 0) → List Condition → Type 0
+AllGiven P [] = P done
+AllGiven P (c ∷ cs) = (c .applies → P (c .number)) × AllGiven P cs
+
+pub first-has : (P : ℕ → Type 0) (cs : List Condition) (m : ℕ) → AllGiven P cs → First cs m → P m
+first-has P [] m all f = subst P (sym f) all
+first-has P (c ∷ cs) m all (inl f) = subst P (sym (f .1)) (all .0 (f .0))
+first-has P (c ∷ cs) m all (inr f) = first-has P cs m (all .1) (f .1)
+
 -- ---- a test that several calls make: an output shorter than it needs to be
 pub judges-short : (room needed : ℕ) → Reflects (tooShort if ltb room needed) (tooShort given-when (room < needed))
 judges-short room needed = record {

@@ -1,11 +1,12 @@
 -- Four machines of which demand 3 is false, so that a reader sees that its statements can fail, and by what. Each is the step with what one line does
 -- replaced: one does not wait at 19, and three are document 01's "Shortcuts that break the lock". With each comes a list of events from a fresh lock,
 -- told as a story, after which one of `OneInside`, `SomeCanStep` and `PassagesPrefix` is false; and what our step does with the very same events, so
--- that the machine and not the list is seen to be at fault. The facts are computed. Rests on Demands and the step. Assumes nothing.
-use mathlib.Core.Bool.{Bool, cond, _&&_}
+-- that the machine and not the list is seen to be at fault. Last, a tool that never moves: it does not take the figure's steps. The facts are computed.
+-- Rests on Demands and the step. Assumes nothing.
+use mathlib.Core.Bool.{cond, true≢false, _&&_}
 use mathlib.Core.List.{List, [], _∷_, _++_}
 use mathlib.Core.Logic.{_≢_}
-use mathlib.Core.Path.{_≡_, ap, refl}
+use mathlib.Core.Path.{_≡_, ap, refl, sym}
 use Prim.Native.Nat.{ℕ, zero, suc}
 use native.Mathlib.Omega.{arith}
 use lib.Dec.{eqb}
@@ -27,8 +28,8 @@ use Rattle.number.specs.declared.ThreadNo.{ThreadNo}
 use Rattle.refusals.specs.Refusals.{refusal}
 use Rattle.step.specs.Demands.{Tool}
 use Rattle.step.specs.Step.{advance, step, stepped}
-use Rattle.theory.specs.Demands.{Busy, FromFresh, OneInside, PassagesPrefix, SomeCanStep, doneAt, exchanges, idle, passages, section}
-use Rattle.theory.specs.FigureSteps.{FigureSteps, TakesFigure, Within}
+use Rattle.theory.specs.Demands.{Busy, Demand3, OneInside, PassagesPrefix, SomeCanStep, doneAt, exchanges, idleLine, passages, sectionLine}
+use Rattle.theory.specs.FigureSteps.{FigureSteps, Within}
 use Rattle.theory.specs.FigureSteps.FigureSteps.{no-steps, one-step}
 use Rattle.word.specs.Word.{aloneIn, inUse, putIn, takeOut}
 
@@ -50,13 +51,13 @@ handOn k s t = cond (isBottom k) (s ⟪flag≔ 1 ⟫) (s ⟪locked k ≔ 0 ⟫) 
 
 -- Threads 1 and 2 both stand at the critical section.
 pub record TwoInside (s : State) : Type 0 where
-  pub first : line s (thread 1) ≡ section
-  pub second : line s (thread 2) ≡ section
+  pub first : line s (thread 1) ≡ sectionLine
+  pub second : line s (thread 2) ≡ sectionLine
 
 -- There are two threads: the first is idle, and the second waits at 19.
 pub record Stuck (tool : Tool) (s : State) : Type 0 where
   pub two : s .shared .threads ≡ 2
-  pub first : line s (thread 1) ≡ idle
+  pub first : line s (thread 1) ≡ idleLine
   pub second : line s (thread 2) ≡ 19
   pub waits : tool s (thread 2) bottom .answer ≡ mustWait
 
@@ -84,7 +85,7 @@ none-can-step {tool} {s} stuck some = refused (some (thread 2) (record { exists 
   where
     refused : (u : ThreadNo) × Busy s u × (tool s u bottom .answer ≡ done) → ⊥
     refused (u, busy, accepted) =
-        of-two (λ n. line s (thread n) ≢ idle → tool s (thread n) bottom .answer ≢ done)
+        of-two (λ n. line s (thread n) ≢ idleLine → tool s (thread n) bottom .answer ≢ done)
         (λ off h. off (stuck .first))
         (λ off h. omega arith)
         (u .0)
@@ -129,11 +130,11 @@ neverWaits-reaches = record { first = refl; second = refl }
 pub neverWaits-two-inside : ¬ OneInside (after neverWaits (freshState 2 2) followsIn)
 neverWaits-two-inside = two-inside neverWaits-reaches
 
--- So `OneInside` does not hold from fresh of this machine.
-pub neverWaits-fails : ¬ FromFresh (λ s es. OneInside (after neverWaits s es))
-neverWaits-fails all = neverWaits-two-inside (all 2 2 (omega arith) (omega arith) followsIn)
+-- So this machine does not meet demand 3.
+pub neverWaits-fails : ¬ Demand3 neverWaits
+neverWaits-fails d = neverWaits-two-inside (d .holds 2 2 (omega arith) (omega arith) followsIn .one-inside)
 
--- Our step, given the same events, has thread 2 wait at 19.
+-- Our step, given the same events, leaves thread 2 at 19.
 pub followsIn-ours : line (after step (freshState 2 2) followsIn) (thread 2) ≡ 19
 unfolding spoilt
 followsIn-ours = refl
@@ -165,14 +166,14 @@ plainStore-reaches = record { two = refl; first = refl; second = refl; waits = r
 pub plainStore-none-can-step : ¬ SomeCanStep plainStore (after plainStore (freshState 2 2) cutOff)
 plainStore-none-can-step = none-can-step plainStore-reaches
 
--- So `SomeCanStep` does not hold from fresh of this machine.
-pub plainStore-fails : ¬ FromFresh (λ s es. SomeCanStep plainStore (after plainStore s es))
-plainStore-fails all = plainStore-none-can-step (all 2 2 (omega arith) (omega arith) cutOff)
+-- So this machine does not meet demand 3.
+pub plainStore-fails : ¬ Demand3 plainStore
+plainStore-fails d = plainStore-none-can-step (d .holds 2 2 (omega arith) (omega arith) cutOff .some-can-step)
 
--- With our step, given the same events, thread 1 has found its successor at 23, is still inside, and can step.
-pub cutOff-ours : step (after step (freshState 2 2) cutOff) (thread 1) bottom .answer ≡ done
+-- With our step, given the same events, thread 1 has found its successor and is at 28, past the section, and can step.
+pub cutOff-ours : let s = after step (freshState 2 2) cutOff in (line s (thread 1) ≡ 28) × (step s (thread 1) bottom .answer ≡ done)
 unfolding spoilt
-cutOff-ours = refl
+cutOff-ours = (refl, refl)
 
 -- ---- "Raising the flag as well as unlocking a successor at 29."
 
@@ -202,18 +203,19 @@ raisesFlagToo-reaches = record { first = refl; second = refl }
 pub raisesFlagToo-two-inside : ¬ OneInside (after raisesFlagToo (freshState 2 2) handedOnTwice)
 raisesFlagToo-two-inside = two-inside raisesFlagToo-reaches
 
--- So `OneInside` does not hold from fresh of this machine.
-pub raisesFlagToo-fails : ¬ FromFresh (λ s es. OneInside (after raisesFlagToo s es))
-raisesFlagToo-fails all = raisesFlagToo-two-inside (all 2 2 (omega arith) (omega arith) handedOnTwice)
+-- So this machine does not meet demand 3.
+pub raisesFlagToo-fails : ¬ Demand3 raisesFlagToo
+raisesFlagToo-fails d = raisesFlagToo-two-inside (d .holds 2 2 (omega arith) (omega arith) handedOnTwice .one-inside)
 
--- Our step, given the same events, has thread 1 wait at 16.
+-- Our step, given the same events, leaves thread 1 at 16.
 pub handedOnTwice-ours : line (after step (freshState 2 2) handedOnTwice) (thread 1) ≡ 16
 unfolding spoilt
 handedOnTwice-ours = refl
 
 -- ---- "Reading next(my) again at 29: the node may already serve another thread."
 
--- 29 | if next(my) is not 0, locked(next(my)) := 0, else flag := 1; low + 1 | 11. (The crate `cases` tries the same shortcut against demand 2.)
+-- 29 | if next(my) is not 0, locked(next(my)) := 0, else flag := 1; low + 1 | 11. (The crate `cases` tries this shortcut against demand 2, and there it
+-- also judges whether next(my) is in use.)
 unfoldable pub readsNextAgain : Tool
 unfolding spoilt
 readsNextAgain = spoilt 29 (λ s t. handOn (next s (my s t)) s t)
@@ -243,9 +245,9 @@ readsNextAgain-makes = record { exchanged = refl; passed = refl }
 pub readsNextAgain-out-of-order : ¬ PassagesPrefix readsNextAgain (freshState 3 2) nodeServesAnother
 readsNextAgain-out-of-order = out-of-order readsNextAgain-makes
 
--- So `PassagesPrefix` does not hold from fresh of this machine.
-pub readsNextAgain-fails : ¬ FromFresh (λ s es. PassagesPrefix readsNextAgain s es)
-readsNextAgain-fails all = readsNextAgain-out-of-order (all 3 2 (omega arith) (omega arith) nodeServesAnother)
+-- So this machine does not meet demand 3.
+pub readsNextAgain-fails : ¬ Demand3 readsNextAgain
+readsNextAgain-fails d = readsNextAgain-out-of-order (d .holds 3 2 (omega arith) (omega arith) nodeServesAnother .passages-prefix)
 
 -- With our step, given the same events, only thread 1 passes.
 pub nodeServesAnother-ours : passages step (freshState 3 2) nodeServesAnother ≡ thread 1 ∷ []
@@ -254,7 +256,8 @@ nodeServesAnother-ours = refl
 
 -- ---- "a tool that never moves can't earn it"
 
--- It refuses every event, so it stays fresh: what is said of the states and events of such a tool is true, and says nothing.
+-- It refuses every event, so it stays fresh: what demand 3 says of its events and states is true, and says nothing. (The crate `cases` tries the same tool
+-- against demand 2.)
 unfoldable pub neverMoves : Tool
 neverMoves s t n = stepped mustWait s
 
@@ -266,13 +269,10 @@ pub firstStep-figure : FigureSteps (freshState 1 1) firstStep (step (freshState 
 unfolding spoilt
 firstStep-figure =
     let within : Within (freshState 1 1) (event 1 1) =
-    record { thread = omega arith; named = λ off. absurd (off refl); node = λ _. omega arith; entries = λ _. omega arith } in
+    record { thread = omega arith; named = λ off. absurd (off refl); within = λ _. omega arith; entries = λ _. omega arith } in
     one-step within (line11 refl (λ z. omega arith) refl refl) no-steps
 
--- But it does not take the figure's steps.
-pub neverMoves-fails : ¬ TakesFigure neverMoves
+-- But it does not take the figure's steps, and so does not meet demand 3.
+pub neverMoves-fails : ¬ Demand3 neverMoves
 unfolding neverMoves acceptsAll
-neverMoves-fails all =
-    let taken = all 1 1 (omega arith) (omega arith) firstStep _ firstStep-figure .0 in
-    let wrong : _≡_ {A = ℕ} 0 1 = ap (λ (b : Bool). cond b 1 0) taken in
-    omega arith
+neverMoves-fails d = true≢false (sym (d .takes-figure 1 1 (omega arith) (omega arith) firstStep _ firstStep-figure .0))

@@ -1,20 +1,20 @@
 -- An event in a valid state: there `advance` is the step, and the state after it is valid too, so that a row may judge its start alone. Which answers
 -- stop: the first condition that applies has one of the table's numbers. Rests on the step's theorems. Assumes nothing.
 use mathlib.Core.Bool.{cond, false}
-use mathlib.Core.List.{List, [], _∷_, _++_}
-use mathlib.Core.Logic.{_≢_, _↔_, inl, inr}
-use mathlib.Core.Path.{_≡_, ap, refl, subst, sym, _∙_}
+use mathlib.Core.List.{List, _∷_, _++_}
+use mathlib.Core.Logic.{_≢_, _↔_}
+use mathlib.Core.Path.{_≡_, ap, refl, sym, _∙_}
 use Prim.Native.Nat.{ℕ}
 use native.Mathlib.Decide.{ℕ-discrete}
 use native.Mathlib.Omega.{arith}
 use Rattle.lock.specs.Valid.{Between, SameSize, Valid}
 use Rattle.lock.specs.declared.State.{State}
 use Rattle.number.specs.First.{_given-when_}
-use Rattle.number.specs.FirstThat.{first-behind}
+use Rattle.number.specs.FirstThat.{AllGiven, first-behind, first-has}
 use Rattle.number.specs.Refused.{badState, done, noPlaceLeft, noSuchThread}
 use Rattle.number.specs.declared.NodeNo.{NodeNo}
 use Rattle.number.specs.declared.ThreadNo.{ThreadNo}
-use Rattle.step.specs.Conditions.{Condition, First, conditions, eventConditions}
+use Rattle.step.specs.Conditions.{First, conditions, eventConditions}
 use Rattle.step.specs.Step.{advance, step, stepped}
 use Rattle.step.specs.Theorems.{advance-is-step, exactly-when, refused-unchanged, size-kept, valid-kept}
 use Rattle.step.specs.declared.Stepped.{Stepped}
@@ -58,16 +58,6 @@ module _ (s : State) (t : ThreadNo) (n : NodeNo) (rule : Valid s) where
 
 -- ---- which answers stop
 
--- what holds of 0 and of each number of the list holds of the first that applies
-abbrev AllNumbers : (ℕ → Type 0) → List Condition → Type 0
-AllNumbers P [] = P done
-AllNumbers P (c ∷ cs) = P (c .number) × AllNumbers P cs
-
-first-has : (P : ℕ → Type 0) (cs : List Condition) (m : ℕ) → AllNumbers P cs → First cs m → P m
-first-has P [] m all f = subst P (sym f) all
-first-has P (c ∷ cs) m all (inl f) = subst P (sym (f .1)) (all .0)
-first-has P (c ∷ cs) m all (inr f) = first-has P cs m (all .1) (f .1)
-
 -- the number goes on, or it is 5 to 11
 abbrev OnOrWithin : ℕ → Type 0
 OnOrWithin m = cond (goesOn m) (Unit {0}) (Between noSuchThread m noPlaceLeft)
@@ -75,7 +65,7 @@ OnOrWithin m = cond (goesOn m) (Unit {0}) (Between noSuchThread m noPlaceLeft)
 pub stops-within : (s : State) (t : ThreadNo) (n : NodeNo) → Valid s → goesOn (advance s t n .answer) ≡ false
     → Between noSuchThread (advance s t n .answer) noPlaceLeft
 stops-within s t n rule h =
-    let all : AllNumbers OnOrWithin (eventConditions s t n) = omega arith in
+    let all : AllGiven OnOrWithin (eventConditions s t n) = omega arith in
     rw h at (first-has OnOrWithin (eventConditions s t n) (advance s t n .answer) all (answer-first s t n rule))
 
 -- ---- rows: each event keeps the state valid, and T and K

@@ -1,5 +1,5 @@
--- The line at which the first machine sees a thread: its own, but a thread at 15 or 21, where it only looks at prev or succ, is seen at the line it goes on to.
--- So those two steps change nothing that is seen, and what holds "from 15 on, by prev" holds at 16 and at 18. Assumes nothing.
+-- The line at which a thread is seen: its own, but a thread at 15 or 21, where it only looks at prev or succ, is seen at the line it goes on to. So these two
+-- steps change nothing that is seen, and what prev decides at 15 is said at 16 and at 18. Assumes nothing.
 use mathlib.Core.Bool.{Bool, cond, false, true}
 use mathlib.Core.Logic.{_≢_}
 use mathlib.Core.Path.{_≡_, ap, refl, _∙_}
@@ -18,9 +18,11 @@ use Rattle.theory.specs.Queue.AtLines.{In}
 use Rattle.theory.specs.Queue.Seen.{Seen}
 use Rattle.theory.specs.Queue.View.{threadsIn}
 
+-- by line, prev and succ
 abbrev pub onward : ℕ → ℕ → ℕ → ℕ
 onward line prev succ = cond (eqb line 15) (cond (eqb prev 0) 16 18) (cond (eqb line 21) (cond (eqb succ 0) 22 25) line)
 
+-- of a thread
 abbrev pub look : Thread → ℕ
 look v = onward (v .line) (v .prev .0) (v .succ .0)
 
@@ -34,11 +36,11 @@ one-of true P k n x y = x
 one-of false P k n x y = y
 
 -- a thread that goes on to one of two lines at which it is seen itself is seen there
-pub goes-on : (b : Bool) (k n p s : ℕ) → onward k p s ≡ k → onward n p s ≡ n → onward (cond b k n) p s ≡ cond b k n
-goes-on b k n p s = one-of b (λ (l : ℕ). onward l p s ≡ l) k n
+pub seen-ahead : (b : Bool) (k n p s : ℕ) → onward k p s ≡ k → onward n p s ≡ n → onward (cond b k n) p s ≡ cond b k n
+seen-ahead b k n p s = one-of b (λ (l : ℕ). onward l p s ≡ l) k n
 
 -- By what is seen of a line.
-pub by-look : {X : Type 0} (l p s : ℕ) → (l ≢ 15 → l ≢ 21 → onward l p s ≡ l → X) → (l ≡ 15 → In 16 18 (onward l p s) → X)
+by-look : {X : Type 0} (l p s : ℕ) → (l ≢ 15 → l ≢ 21 → onward l p s ≡ l → X) → (l ≡ 15 → In 16 18 (onward l p s) → X)
     → (l ≡ 21 → In 22 25 (onward l p s) → X) → X
 by-look {X} l p s as-it-is at15 at21 = go (ℕ-discrete l 15) (ℕ-discrete l 21)
   where
@@ -49,7 +51,7 @@ by-look {X} l p s as-it-is at15 at21 = go (ℕ-discrete l 15) (ℕ-discrete l 21
 
 module _ (base : ℕ) (s : State) (t : ThreadNo) where
   -- the line at which a thread of the state is seen
-  pub seen-line : threadsOf base s (t .0) .line ≡ look (threadAt s t)
+  seen-line : threadsOf base s (t .0) .line ≡ look (threadAt s t)
   unfolding threadsIn
   seen-line = refl
 

@@ -1,34 +1,33 @@
--- What demand 3 says of lists of events: the passages are the first of the exchanges, no thread passes twice while another waits, and no event is answered
--- 9 to 11. Rests on Reached, Follows and Queue/Once. Assumes nothing.
+-- What demand 3 says of lists of events: the passages are the first of the exchanges, no thread passes twice between another's exchange and its passage, and
+-- no event is answered 9 to 11. Rests on Reached, States and Queue/Once. Assumes nothing.
 use mathlib.Core.Bool.{true}
-use mathlib.Core.List.{List, [], _∷_, _++_, append-assoc, append-cancel-left}
-use mathlib.Core.Path.{_≡_, ap, refl, sym, _∙_}
+use mathlib.Core.List.{List, [], _∷_, _++_}
+use mathlib.Core.Path.{_≡_, ap, refl, subst₂, sym, _∙_}
 use Prim.Native.Nat.{ℕ, zero, suc, _≤_, _<_}
 use native.Mathlib.Omega.{arith}
 use lib.Dec.{eqb}
-use lib.ListN.{List·getD-append, getD, length}
+use lib.ListN.{List·getD-append, getD, length, length-append}
 use borrow.Author.Tests.{eqb-true}
 use Rattle.events.specs.Events.{after, answers}
 use Rattle.events.specs.declared.Event.{Event}
 use Rattle.figure.specs.Figure.{line}
-use Rattle.lock.specs.Valid.{Between}
 use Rattle.lock.specs.declared.State.{State}
-use Rattle.number.specs.Refused.{done, followedEmpty, noPlaceLeft}
+use Rattle.number.specs.Refused.{done}
 use Rattle.number.specs.Tests.{first-holds, second-holds}
 use Rattle.number.specs.declared.ThreadNo.{ThreadNo}
 use Rattle.step.specs.Demands.{Tool}
 use Rattle.step.specs.Step.{step}
-use Rattle.theory.specs.Demands.{PassesOnce, Prefix, acceptedAt, doneAt, exchange, exchanges, howOften, passages}
-use Rattle.theory.specs.Proof.Follows.{never}
+use Rattle.theory.specs.Demands.{Never9To11, NthPassage, PassesOnce, Prefix, acceptedAt, doneAt, exchangeLine, exchanges, howOften, nobody, passages}
 use Rattle.theory.specs.Proof.Reached.{Reached, event-reached, events-reached}
-use Rattle.theory.specs.Queue.Once
-use Rattle.theory.specs.Queue.Once.{passed-first, waiting}
-
--- ---- lists
+use Rattle.theory.specs.Proof.States.{never}
+use Rattle.theory.specs.Queue.Once.{once-between, passed-first, toPass}
 
 -- what stands at a place of the front stands there in the whole
-pub prefix-at : (front whole : List ThreadNo) → Prefix front whole → (i : ℕ) (d : ThreadNo) → i < length front → getD front i d ≡ getD whole i d
-prefix-at front whole (rest, e) i d h = sym (List·getD-append front rest d i h) ∙ ap (λ (xs : List ThreadNo). getD xs i d) (sym e)
+prefix-at : (front whole : List ThreadNo) → Prefix front whole → (i : ℕ) → i < length front → (i < length whole) × (getD front i nobody ≡ getD whole i nobody)
+prefix-at front whole (rest, e) i h = (
+  omega (arith, ap length e, length-append front rest),
+  sym (List·getD-append front rest nobody i h) ∙ ap (λ (xs : List ThreadNo). getD xs i nobody) (sym e),
+)
 
 -- ---- events in two parts
 after-append : (tool : Tool) (s : State) (es later : List Event) → after tool s (es ++ later) ≡ after tool (after tool s es) later
@@ -36,13 +35,18 @@ unfolding after
 after-append tool s [] later = refl
 after-append tool s (e ∷ es) later = after-append tool (tool s (e .thread) (e .node) .state) es later
 
+-- the state after one event more
+one-more : (tool : Tool) (s : State) (es : List Event) (e : Event) → after tool s (es ++ e ∷ []) ≡ tool (after tool s es) (e .thread) (e .node) .state
+unfolding after
+one-more tool s es e = after-append tool s es (e ∷ [])
+
 module _ {s : State} {exchanged passed : List ThreadNo} (r : Reached s exchanged passed) where
   -- The passages are the first of the exchanges.
   pub passed-prefix : Prefix passed exchanged
-  passed-prefix = (waiting (r .kept .0 .places) (r .kept .1) refl, passed-first (r .kept .0 .places) (r .kept .1) refl)
+  passed-prefix = (toPass (r .kept .1), passed-first (r .kept .1))
 
   -- ---- an exchange, and later events
-  module _ (e : Event) (later : List Event) (h : acceptedAt step exchange s e ≡ true) where
+  module _ (e : Event) (later : List Event) (h : acceptedAt step exchangeLine s e ≡ true) where
     abbrev s₁ : State
     s₁ = step s (e .thread) (e .node) .state
 
@@ -56,47 +60,29 @@ module _ {s : State} {exchanged passed : List ThreadNo} (r : Reached s exchanged
     unfolding doneAt
     no-passage =
         let accepted = first-holds (eqb (step s (e .thread) (e .node) .answer) done) _ h in
-        let at-14 = eqb-true (line s (e .thread)) exchange (second-holds (eqb (step s (e .thread) (e .node) .answer) done) _ h) in
+        let at-14 = eqb-true (line s (e .thread)) exchangeLine (second-holds (eqb (step s (e .thread) (e .node) .answer) done) _ h) in
         rw (accepted, at-14)
 
-    abbrev since : List ThreadNo
-    since = passages step s₁ later
-
-    abbrev queue : List ThreadNo
-    queue = waiting (r .kept .0 .places) (r .kept .1) refl
-
-    -- who has passed since then is the front of those who waited, the thread itself, and those who exchanged after it
-    front-passed : {s₃ : State} {x y : List ThreadNo} → Reached s₃ x y → x ≡ exchanged ++ e .thread ∷ exchanges step s₁ later → y ≡ passed ++ since
-        → Prefix since (queue ++ e .thread ∷ exchanges step s₁ later)
-    front-passed r₃ x-is y-is =
-        let rest = waiting (r₃ .kept .0 .places) (r₃ .kept .1) refl in
-        let whole =
-        sym x-is ∙ passed-first (r₃ .kept .0 .places) (r₃ .kept .1) refl ∙ ap (λ (xs : List ThreadNo). xs ++ rest) y-is ∙ append-assoc passed since rest in
-        let before = ap (λ (xs : List ThreadNo). xs ++ e .thread ∷ exchanges step s₁ later) (passed-first (r .kept .0 .places) (r .kept .1) refl) in
-        let split = append-assoc passed queue (e .thread ∷ exchanges step s₁ later) in
-        (rest, append-cancel-left passed _ _ (sym split ∙ sym before ∙ whole))
+    -- so this is the order when the later events are over
+    order-later : Reached (after step s (e ∷ later)) (exchanged ++ e .thread ∷ exchanges step s₁ later) (passed ++ passages step s₁ later)
+    order-later =
+        subst₂ (λ (x y : List ThreadNo). Reached (after step s (e ∷ later)) (exchanged ++ x) (passed ++ y)) exchange-noted no-passage
+        (events-reached r (e ∷ later))
 
     -- Before its thread has passed, no thread has passed twice.
-    pub once-since : howOften (e .thread) since ≡ 0 → (u : ThreadNo) → howOften u since ≤ 1
-    once-since none u =
-        at-most (front-passed (events-reached r (e ∷ later)) (ap (λ (xs : List ThreadNo). exchanged ++ xs) exchange-noted)
-        (ap (λ (xs : List ThreadNo). passed ++ xs) no-passage))
-      where
-        at-most : Prefix since (queue ++ e .thread ∷ exchanges step s₁ later) → howOften u since ≤ 1
-        at-most (rest, whole) = Once.passes-once (r .kept .0 .places) (r .kept .1) refl (e .thread) since rest (exchanges step s₁ later) (sym whole) none u
+    once-since : let since = passages step s₁ later in howOften (e .thread) since ≡ 0 → (u : ThreadNo) → howOften u since ≤ 1
+    once-since = once-between (r .kept .1) (r .kept .0 .places) (e .thread) (exchanges step s₁ later) (passages step s₁ later) (order-later .kept .1)
 
--- the state after one event more
-one-more : (tool : Tool) (s : State) (es : List Event) (e : Event) → after tool s (es ++ e ∷ []) ≡ tool (after tool s es) (e .thread) (e .node) .state
-unfolding after
-one-more tool s es e = after-append tool s es (e ∷ [])
+-- The n-th passage is made by the thread that made the n-th exchange.
+pub nth-passage : (s : State) (es : List Event) → Prefix (passages step s es) (exchanges step s es) → NthPassage step s es
+nth-passage s es = prefix-at (passages step s es) (exchanges step s es)
 
 -- After a thread's exchange and before its passage, each other thread passes at most once.
 pub passes-once : {s : State} {exchanged passed : List ThreadNo} → Reached s exchanged passed → (es : List Event) → PassesOnce step s es
 passes-once {s} r es before e later rest es-is accepted = rw (one-more step s before e) (once-since (events-reached r before) e later accepted)
 
 -- No event is answered 9, 10 or 11.
-pub never-answered : {s : State} {exchanged passed : List ThreadNo} → Reached s exchanged passed → (es : List Event) (i : ℕ)
-    → ¬ Between followedEmpty (getD (answers step s es) i done) noPlaceLeft
+pub never-answered : {s : State} {exchanged passed : List ThreadNo} → Reached s exchanged passed → (es : List Event) → Never9To11 step s es
 unfolding answers
 never-answered r [] i h = omega arith
 never-answered r (e ∷ es) zero h = never r (e .thread) (e .node) h

@@ -1,19 +1,21 @@
 -- What every state reached from a fresh lock has, beside the lists of the exchanges and passages made on the way: a fresh state has it, and every event keeps
 -- it. An accepted event is a step of Figure 1 (`sound`), and a refused one leaves the state. Rests on the step's theorems, Steps and Shape/Start.
 -- Assumes nothing.
-use mathlib.Core.Bool.{Bool, cond, false, true}
-use mathlib.Core.List.{List, [], _∷_, _++_, append-assoc, append-nil}
+use mathlib.Core.Bool.{false}
+use mathlib.Core.List.{List, [], _++_}
 use mathlib.Core.Logic.{by-cases}
-use mathlib.Core.Path.{_≡_, ap, refl, subst₂, sym}
+use mathlib.Core.Path.{_≡_, ap, refl}
 use Prim.Native.Nat.{ℕ, zero, suc, _-_, _≤_}
 use native.Mathlib.Decide.{decLe, ℕ-discrete}
 use native.Mathlib.Omega.{arith}
-use borrow.Author.Tests.{eq-eqb, le-leb, lt-leb, ne-eqb}
+use lib.Dec.{eqb}
+use borrow.Author.Tests.{eq-eqb, lt-leb, ne-eqb}
 use Rattle.ask.specs.Theorems.{count-none}
 use Rattle.events.specs.Events.{after}
 use Rattle.events.specs.declared.Event.{Event}
 use Rattle.figure.specs.Figure.{line}
 use Rattle.lock.specs.Fresh.{freshState, idle, idleTo}
+use Rattle.lock.specs.Judged.{rule-size}
 use Rattle.lock.specs.Laws.{nth-after-front, nth-front}
 use Rattle.lock.specs.State.{nth, tableSize, threadAt, zeroNode, zeroThread}
 use Rattle.lock.specs.Theorems.{fresh-valid}
@@ -28,11 +30,12 @@ use Rattle.number.specs.declared.NodeNo.{NodeNo}
 use Rattle.number.specs.declared.ThreadNo.{ThreadNo}
 use Rattle.step.specs.Step.{step}
 use Rattle.step.specs.Theorems.{accepted-possible, refused-unchanged, sound, valid-kept}
-use Rattle.theory.specs.Demands.{acceptedAt, doneAt, exchange, exchanges, passages, section}
+use Rattle.theory.specs.Demands.{acceptedAt, exchangeLine, exchanges, passages, sectionLine}
 use Rattle.theory.specs.Proof.Look.{look, threadsOf}
-use Rattle.theory.specs.Proof.Steps.{Counted, Kept, keeps, noted}
-use Rattle.theory.specs.Proof.Stored.{Of}
+use Rattle.theory.specs.Proof.Steps.{Kept, Tallied, keeps}
+use Rattle.theory.specs.Queue.Stored.{Of}
 use Rattle.theory.specs.Queue.Counts.{isAt}
+use Rattle.theory.specs.Queue.Events.{events-keep, noted}
 use Rattle.theory.specs.Queue.View.{lockedIn, nextIn, threadsIn, used-none, usedIn}
 use Rattle.theory.specs.Shape.Start.{order-start, shape-start}
 
@@ -44,7 +47,7 @@ pub record Reached (s : State) (exchanged passed : List ThreadNo) : Type 0 where
   pub owner : ℕ → ℕ
   pub taker : ℕ → ℕ
   pub kept : Of look base (Kept exchanged passed) owner taker s
-  pub counts : Counted s
+  pub counts : Tallied s
 
 -- ---- a fresh lock
 module _ (T K : ℕ) (threads : Between 1 T mostThreads) (nodes : Between 1 K mostNodes) where
@@ -52,8 +55,7 @@ module _ (T K : ℕ) (threads : Between 1 T mostThreads) (nodes : Between 1 K mo
   start = freshState T K
 
   start-valid : Valid start
-  start-valid = fresh-valid T K
-      (rw (le-leb 1 T (threads .from), le-leb T mostThreads (threads .to), le-leb 1 K (nodes .from), le-leb K mostNodes (nodes .to)))
+  start-valid = fresh-valid T K (rule-size T K threads nodes)
 
   -- every number has an idle thread, or none
   idle-or-none : (P : Thread → Type 0) → P idle → P zeroThread → (q : ℕ) → P (nth (idleTo T) q zeroThread)
@@ -85,7 +87,7 @@ module _ (T K : ℕ) (threads : Between 1 T mostThreads) (nodes : Between 1 K mo
     taker = λ _. 0;
     kept = (
       shape-start (threadsOf 0 start) (usedIn 0) (nextIn (start .node)) (lockedIn (start .node)) start-line used-none start-unlocked,
-      order-start (threadsOf 0 start) (usedIn 0) (nextIn (start .node)) (lockedIn (start .node)) start-line used-none start-unlocked,
+      order-start (threadsOf 0 start) start-line,
     );
     counts = record {
       entries = omega (arith, count-none (isAt 12 14) start .1 (λ t b. none-at 12 14 (omega arith) t));
@@ -95,41 +97,28 @@ module _ (T K : ℕ) (threads : Between 1 T mostThreads) (nodes : Between 1 K mo
 
 -- ---- one event
 module _ {s : State} {exchanged passed : List ThreadNo} (r : Reached s exchanged passed) where
+  -- accepted, it is a step of the figure
   accepted-reached : (t : ThreadNo) (n : NodeNo) → step s t n .answer ≡ done
-      → Reached (step s t n .state) (noted exchange (line s t) t exchanged) (noted section (line s t) t passed)
+      → Reached (step s t n .state) (noted (eqb (line s t) exchangeLine) t exchanged) (noted (eqb (line s t) sectionLine) t passed)
   accepted-reached t n ok =
       let can = accepted-possible s t n (r .valid) ok in
       let next = step s t n .state in
       let k = keeps (r .base) s t n (r .valid) can (r .owner) (r .taker) exchanged passed (r .kept) (r .counts) next (sound s t n (r .valid) ok) in
-      record { valid = valid-kept s t n (r .valid) ok; base = r .base; owner = k .owner′; taker = k .taker′; kept = k .kept′; counts = k .counts′ }
+      record { valid = valid-kept s t n (r .valid) ok; base = r .base; owner = k .owner′; taker = k .taker′; kept = k .seen′; counts = k .counts′ }
 
-  -- a list of threads with the event's behind it, if it was accepted at line l
-  abbrev listed : ℕ → Event → List ThreadNo → List ThreadNo
-  listed l e xs = cond (acceptedAt step l s e) (xs ++ e .thread ∷ []) xs
-
-  pub event-reached : (e : Event) → Reached (step s (e .thread) (e .node) .state) (listed exchange e exchanged) (listed section e passed)
+  -- refused, it leaves the state
+  pub event-reached : (e : Event)
+      → Reached (step s (e .thread) (e .node) .state) (noted (acceptedAt step exchangeLine s e) (e .thread) exchanged)
+      (noted (acceptedAt step sectionLine s e) (e .thread) passed)
   event-reached e =
       by-cases (ℕ-discrete (step s (e .thread) (e .node) .answer) done)
       (λ ok. rw (eq-eqb (step s (e .thread) (e .node) .answer) done ok) (accepted-reached (e .thread) (e .node) ok))
       (λ no. rw (ne-eqb (step s (e .thread) (e .node) .answer) done no, refused-unchanged s (e .thread) (e .node) no) r)
 
 -- ---- events one after the other
-
--- what is noted behind a list comes before what is noted later
-noted-behind : (b : Bool) (t : ThreadNo) (xs later : List ThreadNo) → cond b (xs ++ t ∷ []) xs ++ later ≡ xs ++ cond b (t ∷ later) later
-noted-behind true t xs later = append-assoc xs (t ∷ []) later
-noted-behind false t xs later = refl
-
 pub events-reached : {s : State} {exchanged passed : List ThreadNo} → Reached s exchanged passed → (es : List Event)
     → Reached (after step s es) (exchanged ++ exchanges step s es) (passed ++ passages step s es)
-unfolding after doneAt
-events-reached {exchanged = x} {passed = y} r [] = subst₂ (Reached _) (sym (append-nil x)) (sym (append-nil y)) r
-events-reached {s} {exchanged = x} {passed = y} r (e ∷ es) =
-    let s₁ = step s (e .thread) (e .node) .state in
-    subst₂ (Reached (after step s₁ es))
-    (noted-behind (acceptedAt step exchange s e) (e .thread) x (exchanges step s₁ es))
-    (noted-behind (acceptedAt step section s e) (e .thread) y (passages step s₁ es))
-    (events-reached (event-reached r e) es)
+events-reached = events-keep step exchangeLine sectionLine Reached (λ s x y r. event-reached r)
 
 -- from a fresh lock
 pub fresh-reached : (T K : ℕ) → Between 1 T mostThreads → Between 1 K mostNodes → (es : List Event)

@@ -1,11 +1,11 @@
--- Every step of Figure 1 keeps the shape of the queue and the order of the passages. By cases over the figure's lines: for each, what it stores is what the
--- line's lemma of Shape/Lines stores, and the order is kept because the line exchanges (14), passes (27), leaves (29), or does none of these.
--- The steps at 15 and 21 change nothing that is seen. Rests on Shape, Queue/Order, Stored and Look. Assumes nothing.
+-- Every step of Figure 1 keeps the shape of the queue, the order of the passages and the counts. By cases over the figure's lines: for each, what it stores is
+-- what the line's lemma of Shape/Lines stores, the order is kept because the line exchanges (14), passes (27), leaves (29), or does none of these, and the
+-- step is balanced. The steps at 15 and 21 change nothing that is seen. Rests on Shape, Look, Queue/Order, Queue/Counts and Queue/Stored. Assumes nothing.
 use mathlib.Core.Bool.{Bool, cond, false, true}
-use mathlib.Core.List.{List, [], _∷_, _++_}
+use mathlib.Core.List.{List}
 use mathlib.Core.Logic.{_≢_}
-use mathlib.Core.Path.{_≡_, ap, refl, subst, sym, _∙_}
-use Prim.Native.Nat.{ℕ, _+_, _≤_}
+use mathlib.Core.Path.{_≡_, ap, refl, sym, _∙_}
+use Prim.Native.Nat.{ℕ, _+_}
 use native.Mathlib.Nat.{add-assoc}
 use native.Mathlib.Omega.{arith}
 use lib.Dec.{eqb}
@@ -15,7 +15,7 @@ use Rattle.figure.specs.Figure.{_⟪flag≔_⟫, _⟪line_≔_⟫, _⟪locked_�
 use Rattle.figure.specs.Figure.{Figure, entered, flag, high, line, local, low, mess, my, next, prev, succ, tail}
 use Rattle.figure.specs.Figure.Figure.{line11, line12, line13, line14, line15, line16, line17, line18, line19, line20, line21, line22, line23, line24}
 use Rattle.figure.specs.Figure.Figure.{line25, line26, line27, line28, line29}
-use Rattle.lock.specs.Laws.{nth-set-same, set-twice}
+use Rattle.lock.specs.Laws.{set-twice}
 use Rattle.lock.specs.State.{_⟨entered≔_⟩, _⟨flag≔_⟩, _⟨high≔_⟩, _⟨line≔_⟩, _⟨low≔_⟩, _⟨mess≔_⟩, _⟨my≔_⟩, _⟨nxmy≔_⟩, _⟨prev≔_⟩, _⟨slot≔_⟩}
 use Rattle.lock.specs.State.{_⟨succ≔_⟩, _⟨tail≔_⟩, _⟨used≔_⟩, _⟨locked≔_⟩, _⟨next≔_⟩, _⟨node_≔_⟩, _⟨shared≔_⟩, _⟨thread_≔_⟩, nodeAt, nth, setNth, threadAt}
 use Rattle.lock.specs.Valid.{Between, Valid}
@@ -28,20 +28,20 @@ use Rattle.number.specs.declared.ThreadNo.{ThreadNo}
 use Rattle.step.specs.Conditions.{Follows}
 use Rattle.step.specs.Conditions.Follows.{my-at, prev-at, succ-at}
 use Rattle.step.specs.Demands.{Possible}
-use Rattle.theory.specs.Demands.{exchange, section}
-use Rattle.theory.specs.Proof.Look.{goes-on, look, one-of, onward, seen-at, threadsOf}
-use Rattle.theory.specs.Proof.Stored
-use Rattle.theory.specs.Proof.Stored.{Of, memoryOf, memoryWith}
+use Rattle.theory.specs.Demands.{exchangeLine, sectionLine}
+use Rattle.theory.specs.Proof.Look.{seen-ahead, look, one-of, onward, seen-at, threadsOf}
 use Rattle.theory.specs.Queue.AtLines.{In}
-use Rattle.theory.specs.Queue.Counts.{Balance, Counts, counts-kept}
+use Rattle.theory.specs.Queue.Counts.{Balance, Counts}
+use Rattle.theory.specs.Queue.Events.{noted}
 use Rattle.theory.specs.Queue.Functions.{upd}
 use Rattle.theory.specs.Queue.Order.{order-in, order-out, order-pass, order-stay}
 use Rattle.theory.specs.Queue.Seen.{Seen, _⟦line≔_⟧}
+use Rattle.theory.specs.Queue.Stored.{Keeps, Of, inside, keeps-by, keeps-locked, keeps-next, keeps-plain, memoryOf, memoryWith, thread-there}
 use Rattle.theory.specs.Queue.View.{lockedIn, nextIn, threads-kept, threadsIn, used-not, used-put, used-taken, usedIn, view}
 use Rattle.theory.specs.Shape.Goes.{front}
 use Rattle.theory.specs.Shape.Lines.{keeps11, keeps12, keeps13, keeps14, keeps16, keeps17, keeps18, keeps19, keeps20, keeps22-closes, keeps22-waits}
 use Rattle.theory.specs.Shape.Lines.{keeps23, keeps24, keeps25, keeps26, keeps27, keeps28, keeps29-raises, keeps29-unlocks}
-use Rattle.theory.specs.Shape.Memory.{Memory}
+use Rattle.theory.specs.Queue.Memory.{Memory}
 use Rattle.theory.specs.Shape.Shape.{Ordered, Shape}
 use Rattle.word.specs.Laws.{in-has-bit}
 use Rattle.word.specs.Word.{putIn, takeOut}
@@ -51,25 +51,22 @@ abbrev pub Kept : List ThreadNo → List ThreadNo → Memory → (ℕ → Seen) 
 Kept exchanged passed m th = Shape m th × Ordered th (m .taker) (m .low) (m .high) exchanged passed
 
 -- the counts, by the lines of this machine: at 12 the node is chosen, 14 is the exchange, and 29 the last line of the queue
-abbrev pub Counted : State → Type 0
-Counted s = Counts 12 14 29 s
+abbrev pub Tallied : State → Type 0
+Tallied s = Counts 12 14 29 s
 
+-- what a step from line l to line n must do to the three numbers for the counts to be kept
 abbrev Balanced : ℕ → ℕ → Shared → Shared → Type 0
 Balanced l n sh sh′ = Balance 12 14 29 l n sh sh′
 
--- a list of threads with t behind it, if its step was at line l
-abbrev pub noted : ℕ → ℕ → ThreadNo → List ThreadNo → List ThreadNo
-noted l at t xs = cond (eqb at l) (xs ++ t ∷ []) xs
-
 -- a step from line l to line n by which the thread neither exchanges, nor passes, nor leaves
 pub record Quiet (l n : ℕ) : Type 0 where
-  pub exchanges-not : l ≢ exchange
-  pub passes-not : l ≢ section
+  pub no-exchange : l ≢ exchangeLine
+  pub no-passage : l ≢ sectionLine
   pub up-to-section : In 16 27 n → In 16 27 l
-  pub behind-section : In 28 29 n → In 28 29 l
+  pub past-section : In 28 29 n → In 28 29 l
 
 module _ (base : ℕ) (s : State) (p : ThreadNo) (n : NodeNo) (rule : Valid s) (can : Possible s p n) (owner taker : ℕ → ℕ)
-    (exchanged passed : List ThreadNo) (kept : Of look base (Kept exchanged passed) owner taker s) (counts : Counted s) where
+    (exchanged passed : List ThreadNo) (kept : Of look base (Kept exchanged passed) owner taker s) (counts : Tallied s) where
   abbrev m : Memory
   m = memoryOf base s owner taker
 
@@ -81,20 +78,14 @@ module _ (base : ℕ) (s : State) (p : ThreadNo) (n : NodeNo) (rule : Valid s) (
 
   -- the lists after the step
   abbrev exchanged′ : List ThreadNo
-  exchanged′ = noted exchange (line s p) p exchanged
+  exchanged′ = noted (eqb (line s p) exchangeLine) p exchanged
 
   abbrev passed′ : List ThreadNo
-  passed′ = noted section (line s p) p passed
-
-  abbrev Kept′ : Memory → (ℕ → Seen) → Type 0
-  Kept′ = Kept exchanged′ passed′
+  passed′ = noted (eqb (line s p) sectionLine) p passed
 
   -- what is to be shown of the state after the step
-  pub record Keeps (s′ : State) : Type 0 where
-    pub owner′ : ℕ → ℕ
-    pub taker′ : ℕ → ℕ
-    pub kept′ : Of look base Kept′ owner′ taker′ s′
-    pub counts′ : Counted s′
+  abbrev Keeps′ : State → Type 0
+  Keeps′ = Keeps look base (Kept exchanged′ passed′) 12 14 29 s p rule (can .thread) counts
 
   -- ---- what is known before it
   shape : Shape m th
@@ -103,23 +94,11 @@ module _ (base : ℕ) (s : State) (p : ThreadNo) (n : NodeNo) (rule : Valid s) (
   order : Ordered th taker (m .low) (m .high) exchanged passed
   order = kept .1
 
-  from : 1 ≤ p .0
-  from = can .thread .from
-
-  to : p .0 ≤ length (s .thread)
-  to = omega (arith, can .thread, rule .shared .threads, rule .sized .threads)
-
-  inside : Between 1 (p .0) (length (s .thread))
-  inside = record { from = from; to = to }
-
-  -- two variables of the thread, stored one after the other, are one store
-  thread-there : (w d : Thread) → nth (setNth (s .thread) (p .0) w) (p .0) d ≡ w
-  thread-there w d = nth-set-same (s .thread) (p .0) w d from to
-
   -- a followed node stands in the table
   there : (k : NodeNo) → Follows v k → Between 1 (k .0) (length (s .node))
   there k f = omega (arith, in-has-bit (local s) k (can .followed k f .1), rule .sized .nodes)
 
+  -- the line at which the thread is seen
   at : (l : ℕ) → line s p ≡ l → th (p .0) .line ≡ onward l (prev s p .0) (succ s p .0)
   at = seen-at base s p
 
@@ -129,50 +108,53 @@ module _ (base : ℕ) (s : State) (p : ThreadNo) (n : NodeNo) (rule : Valid s) (
   quiet : (l : ℕ) → line s p ≡ l → th (p .0) .line ≡ l → (w : Seen) → w .slot ≡ th (p .0) .slot → Quiet l (w .line)
       → Ordered (upd th (p .0) w) taker (m .low) (m .high) exchanged′ passed′
   quiet l e k w slot-stays h =
-      rw (e, ne-eqb l exchange (h .exchanges-not), ne-eqb l section (h .passes-not))
-      (order-stay order (p .0) w (λ x. rw k (h .up-to-section x)) (λ x. rw k (h .behind-section x)) slot-stays)
+      rw (e, ne-eqb l exchangeLine (h .no-exchange), ne-eqb l sectionLine (h .no-passage))
+      (order-stay order (p .0) w (λ x. rw k (h .up-to-section x)) (λ x. rw k (h .past-section x)) slot-stays)
 
-  -- ---- the stores of a step at line l, after which p is w: what is seen then, and that the counts are kept if the step is balanced
+  -- ---- the stores: see Queue/Stored
   module _ (l : ℕ) (e : line s p ≡ l) (owner′ taker′ : ℕ → ℕ) (sh : Shared) (w : Thread) (even : Balanced l (w .line) (s .shared) sh) where
-    abbrev threads′ : ℕ → Seen
-    threads′ = upd th (p .0) (view look base w)
+    abbrev Kept′ : Memory → (ℕ → Seen) → Type 0
+    Kept′ = Kept exchanged′ passed′
 
-    -- s₁ is s with these stores, whatever it has stored in its nodes
-    reached : (s₁ s′ : State) → s₁ .shared ≡ sh → s₁ .thread ≡ setNth (s .thread) (p .0) w → Of look base Kept′ owner′ taker′ s₁ → s′ ≡ s₁ → Keeps s′
-    reached s₁ s′ shared-is thread-is h q = subst Keeps (sym q) (record {
-      owner′ = owner′;
-      taker′ = taker′;
-      kept′ = h;
-      counts′ = counts-kept 12 14 29 s s₁ p w rule (can .thread) (rw (shared-is, e) even) thread-is counts;
-    })
-
+    -- no node is stored ..
     plain : {used : ℕ → ℕ} {s′ : State} → usedIn (sh .used) ≡ used
-        → Kept′ (memoryWith base sh used (nextIn (s .node)) (lockedIn (s .node)) owner′ taker′) threads′
-        → s′ ≡ s ⟨shared≔ sh ⟩ ⟨thread p ≔ w ⟩ → Keeps s′
-    plain {used} {s′} u h = reached _ s′ refl refl (Stored.stored look base Kept′ owner′ taker′ s p inside sh w u h)
+        → Kept′ (memoryWith base sh used (nextIn (s .node)) (lockedIn (s .node)) owner′ taker′) (upd th (p .0) (view look base w))
+        → s′ ≡ s ⟨shared≔ sh ⟩ ⟨thread p ≔ w ⟩ → Keeps′ s′
+    plain = keeps-plain look base Kept′ 12 14 29 s p rule (can .thread) counts l e owner′ taker′ sh w even
 
+    -- .. next of the followed node is ..
     with-next : {s′ : State} (k : NodeNo) → Follows v k → (x : NodeNo)
-        → Kept′ (memoryWith base sh (usedIn (sh .used)) (upd (nextIn (s .node)) (k .0) (x .0)) (lockedIn (s .node)) owner′ taker′) threads′
-        → s′ ≡ s ⟨shared≔ sh ⟩ ⟨node k ≔ nodeAt s k ⟨next≔ x ⟩ ⟩ ⟨thread p ≔ w ⟩ → Keeps s′
-    with-next {s′} k f x h = reached _ s′ refl refl (Stored.stored-next look base Kept′ owner′ taker′ s p inside sh w k (there k f) x h)
+        → Kept′ (memoryWith base sh (usedIn (sh .used)) (upd (nextIn (s .node)) (k .0) (x .0)) (lockedIn (s .node)) owner′ taker′)
+        (upd th (p .0) (view look base w))
+        → s′ ≡ s ⟨shared≔ sh ⟩ ⟨node k ≔ nodeAt s k ⟨next≔ x ⟩ ⟩ ⟨thread p ≔ w ⟩ → Keeps′ s′
+    with-next k f = keeps-next look base Kept′ 12 14 29 s p rule (can .thread) counts l e owner′ taker′ sh w even k (there k f)
 
-    with-locked : {s′ : State} (k : NodeNo) → Follows v k → (b : ℕ)
-        → Kept′ (memoryWith base sh (usedIn (sh .used)) (nextIn (s .node)) (upd (lockedIn (s .node)) (k .0) b) owner′ taker′) threads′
-        → s′ ≡ s ⟨shared≔ sh ⟩ ⟨node k ≔ nodeAt s k ⟨locked≔ b ⟩ ⟩ ⟨thread p ≔ w ⟩ → Keeps s′
-    with-locked {s′} k f b h = reached _ s′ refl refl (Stored.stored-locked look base Kept′ owner′ taker′ s p inside sh w k (there k f) b h)
+    -- .. or its locked
+    with-locked : {s′ : State} (k : NodeNo) → Follows v k → (x : ℕ)
+        → Kept′ (memoryWith base sh (usedIn (sh .used)) (nextIn (s .node)) (upd (lockedIn (s .node)) (k .0) x) owner′ taker′)
+        (upd th (p .0) (view look base w))
+        → s′ ≡ s ⟨shared≔ sh ⟩ ⟨node k ≔ nodeAt s k ⟨locked≔ x ⟩ ⟩ ⟨thread p ≔ w ⟩ → Keeps′ s′
+    with-locked k f = keeps-locked look base Kept′ 12 14 29 s p rule (can .thread) counts l e owner′ taker′ sh w even k (there k f)
+
+  -- two variables of the thread, stored one after the other, are one store
+  thread-stored : (w d : Thread) → nth (setNth (s .thread) (p .0) w) (p .0) d ≡ w
+  thread-stored = thread-there look base (Kept exchanged′ passed′) 12 14 29 s p rule (can .thread) counts
 
   -- ---- the lines that are not quiet, or that go two ways
 
   -- 15 and 21: nothing that is seen changes
-  looks : (l x : ℕ) {s′ : State} → line s p ≡ l → l ≢ exchange → l ≢ section → onward x (prev s p .0) (succ s p .0) ≡ onward l (prev s p .0) (succ s p .0)
-      → Balanced l x (s .shared) (s .shared) → s′ ≡ s ⟪line p ≔ x ⟫ → Keeps s′
+  looks : (l x : ℕ) {s′ : State} → line s p ≡ l → l ≢ exchangeLine → l ≢ sectionLine
+      → onward x (prev s p .0) (succ s p .0) ≡ onward l (prev s p .0) (succ s p .0)
+      → Balanced l x (s .shared) (s .shared) → s′ ≡ s ⟪line p ≔ x ⟫ → Keeps′ s′
   unfolding threadsIn
   looks l x {s′} e no-exchange no-passage same-line even q =
       let same-view : view look base (v ⟨line≔ x ⟩) ≡ view look base v =
       ap (λ (k : ℕ). view look base v ⟦line≔ k ⟧) (same-line ∙ sym (seen-at base s p l e)) in
-      let seen = threads-kept look base (s .thread) (p .0) (v ⟨line≔ x ⟩) from to same-view in
-      reached l e owner taker (s .shared) (v ⟨line≔ x ⟩) even (s ⟪line p ≔ x ⟫) s′ refl refl
-      (rw (seen, e, ne-eqb l exchange no-exchange, ne-eqb l section no-passage) kept) q
+      let in-table = inside look base (Kept exchanged′ passed′) 12 14 29 s p rule (can .thread) counts in
+      let seen = threads-kept look base (s .thread) (p .0) (v ⟨line≔ x ⟩) (in-table .from) (in-table .to) same-view in
+      keeps-by look base (Kept exchanged′ passed′) 12 14 29 s p rule (can .thread) counts l e owner taker (s .shared) (v ⟨line≔ x ⟩) even
+      (s ⟪line p ≔ x ⟫) s′ refl refl
+      (rw (seen, e, ne-eqb l exchangeLine no-exchange, ne-eqb l sectionLine no-passage) kept) q
 
   -- 14: the thread takes the next place
   exchanges : line s p ≡ 14 → (w : Seen) → In 16 18 (w .line) → w .slot ≡ m .high
@@ -183,7 +165,7 @@ module _ (base : ℕ) (s : State) (p : ThreadNo) (n : NodeNo) (rule : Valid s) (
   passes : line s p ≡ 27 → th (p .0) .line ≡ 27 → Ordered (upd th (p .0) (th (p .0) ⟦line≔ 28 ⟧)) taker (m .low) (m .high) exchanged′ passed′
   passes e k =
       let at-front = front shape (p .0) (omega arith) in
-      rw e (order-pass order (p .0) (th (p .0) ⟦line≔ 28 ⟧) (shape .places) (omega arith) (omega arith) (omega arith) (omega arith) at-front (omega arith))
+      rw e (order-pass order (p .0) (th (p .0) ⟦line≔ 28 ⟧) (shape .places) (omega arith) (omega arith) (omega arith) at-front (omega arith))
 
   -- 29: the thread leaves the front
   leaves : line s p ≡ 29 → th (p .0) .line ≡ 29 → Ordered (upd th (p .0) (th (p .0) ⟦line≔ 11 ⟧)) taker (m .low + 1) (m .high) exchanged′ passed′
@@ -193,7 +175,7 @@ module _ (base : ℕ) (s : State) (p : ThreadNo) (n : NodeNo) (rule : Valid s) (
 
   -- 22, by whether tail is my
   closes : (b : Bool) {s′ : State} → line s p ≡ 22 → same (tail s) (my s p) ≡ b
-      → s′ ≡ cond b (s ⟪tail≔ bottom ⟫ ⟪line p ≔ 25 ⟫) (s ⟪line p ≔ 23 ⟫) → Keeps s′
+      → s′ ≡ cond b (s ⟪tail≔ bottom ⟫ ⟪line p ≔ 25 ⟫) (s ⟪line p ≔ 23 ⟫) → Keeps′ s′
   unfolding threadsIn
   closes true e t q =
       let k = at 22 e in
@@ -206,7 +188,7 @@ module _ (base : ℕ) (s : State) (p : ThreadNo) (n : NodeNo) (rule : Valid s) (
 
   -- 29, by whether succ is 0
   hands-on : (b : Bool) {s′ : State} → line s p ≡ 29 → isBottom (succ s p) ≡ b
-      → s′ ≡ cond b (s ⟪flag≔ 1 ⟫) (s ⟪locked succ s p ≔ 0 ⟫) ⟪low≔ behind (low s) ⟫ ⟪line p ≔ 11 ⟫ → Keeps s′
+      → s′ ≡ cond b (s ⟪flag≔ 1 ⟫) (s ⟪locked succ s p ≔ 0 ⟫) ⟪low≔ behind (low s) ⟫ ⟪line p ≔ 11 ⟫ → Keeps′ s′
   unfolding threadsIn
   hands-on true e t q =
       let k = at 29 e in
@@ -218,14 +200,14 @@ module _ (base : ℕ) (s : State) (p : ThreadNo) (n : NodeNo) (rule : Valid s) (
       (rw (← add-assoc base (low s .0) 1) (keeps29-unlocks shape (p .0) k (eqb-false _ _ t), leaves e k)) q
 
   -- ---- every line
-  pub keeps : (s′ : State) → Figure p n s s′ → Keeps s′
+  pub keeps : (s′ : State) → Figure p n s s′ → Keeps′ s′
   unfolding threadsIn nextIn lockedIn
   keeps s′ (line11 e some unused q) =
       let k = at 11 e in
       plain 11 e (upd owner (n .0) (p .0)) taker (s .shared ⟨used≔ putIn (local s) n ⟩ ⟨entered≔ entered s + 1 ⟩) (v ⟨my≔ n ⟩ ⟨line≔ 12 ⟩) (omega arith)
       (used-put (local s) n (omega arith) (omega (arith, can .within e, rule .shared .nodes)))
       (keeps11 shape (p .0) (n .0) k (omega arith) (used-not (local s) n unused), quiet 11 e k _ refl (omega arith))
-      (q ∙ simp (thread-there, set-twice))
+      (q ∙ simp (thread-stored, set-twice))
   keeps s′ (line12 e q) =
       let k = at 12 e in
       with-next 12 e owner taker (s .shared) (v ⟨line≔ 13 ⟩) (omega arith) (my s p) (my-at (rw e tt) refl) bottom
@@ -240,9 +222,9 @@ module _ (base : ℕ) (s : State) (p : ThreadNo) (n : NodeNo) (rule : Valid s) (
       (v ⟨prev≔ tail s ⟩ ⟨slot≔ high s ⟩ ⟨line≔ 15 ⟩) (omega arith) refl
       (rw (← add-assoc base (high s .0) 1)
       (keeps14 shape (p .0) k, exchanges e _ (one-of (isBottom (tail s)) (In 16 18) 16 18 (omega arith) (omega arith)) refl))
-      (q ∙ simp (thread-there, set-twice))
+      (q ∙ simp (thread-stored, set-twice))
   keeps s′ (line15 e q) =
-      looks 15 _ e (omega arith) (omega arith) (goes-on (isBottom (prev s p)) 16 18 (prev s p .0) (succ s p .0) refl refl)
+      looks 15 _ e (omega arith) (omega arith) (seen-ahead (isBottom (prev s p)) 16 18 (prev s p .0) (succ s p .0) refl refl)
       (one-of (isBottom (prev s p)) (λ (x : ℕ). Balanced 15 x (s .shared) (s .shared)) 16 18 (omega arith) (omega arith)) q
   keeps s′ (line16 e raised q) =
       let k = at 16 e in
@@ -261,9 +243,9 @@ module _ (base : ℕ) (s : State) (p : ThreadNo) (n : NodeNo) (rule : Valid s) (
       let k = at 20 e in
       let goes : In 22 25 (cond (isBottom (next s (my s p))) 22 25) = one-of (isBottom (next s (my s p))) (In 22 25) 22 25 (omega arith) (omega arith) in
       plain 20 e owner taker (s .shared) (v ⟨nxmy≔ next s (my s p) ⟩ ⟨succ≔ next s (my s p) ⟩ ⟨line≔ 21 ⟩) (omega arith) refl
-      (keeps20 shape (p .0) k, quiet 20 e k _ refl (omega arith)) (q ∙ simp (thread-there, set-twice))
+      (keeps20 shape (p .0) k, quiet 20 e k _ refl (omega arith)) (q ∙ simp (thread-stored, set-twice))
   keeps s′ (line21 e q) =
-      looks 21 _ e (omega arith) (omega arith) (goes-on (isBottom (succ s p)) 22 25 (prev s p .0) (succ s p .0) refl refl)
+      looks 21 _ e (omega arith) (omega arith) (seen-ahead (isBottom (succ s p)) 22 25 (prev s p .0) (succ s p .0) refl refl)
       (one-of (isBottom (succ s p)) (λ (x : ℕ). Balanced 21 x (s .shared) (s .shared)) 22 25 (omega arith) (omega arith)) q
   keeps s′ (line22 e q) = closes (same (tail s) (my s p)) e refl q
   keeps s′ (line23 e linked q) =
@@ -272,19 +254,19 @@ module _ (base : ℕ) (s : State) (p : ThreadNo) (n : NodeNo) (rule : Valid s) (
   keeps s′ (line24 e q) =
       let k = at 24 e in
       plain 24 e owner taker (s .shared) (v ⟨nxmy≔ next s (my s p) ⟩ ⟨succ≔ next s (my s p) ⟩ ⟨line≔ 25 ⟩) (omega arith) refl
-      (keeps24 shape (p .0) k, quiet 24 e k _ refl (omega arith)) (q ∙ simp (thread-there, set-twice))
+      (keeps24 shape (p .0) k, quiet 24 e k _ refl (omega arith)) (q ∙ simp (thread-stored, set-twice))
   keeps s′ (line25 e q) =
       let k = at 25 e in
       plain 25 e owner taker (s .shared ⟨mess≔ succ s p ⟩) (v ⟨line≔ 26 ⟩) (omega arith) refl (keeps25 shape (p .0) k, quiet 25 e k _ refl (omega arith)) q
   keeps s′ (line26 e q) =
       let k = at 26 e in
       plain 26 e owner taker (s .shared ⟨used≔ takeOut (local s) (my s p) ⟩) (v ⟨succ≔ bottom ⟩ ⟨line≔ 27 ⟩) (omega arith) (used-taken (local s) (my s p))
-      (keeps26 shape (p .0) k, quiet 26 e k _ refl (omega arith)) (q ∙ simp (thread-there, set-twice))
+      (keeps26 shape (p .0) k, quiet 26 e k _ refl (omega arith)) (q ∙ simp (thread-stored, set-twice))
   keeps s′ (line27 e q) =
       let k = at 27 e in
       plain 27 e owner taker (s .shared) (v ⟨line≔ 28 ⟩) (omega arith) refl (keeps27 shape (p .0) k, passes e k) q
   keeps s′ (line28 e q) =
       let k = at 28 e in
       plain 28 e owner taker (s .shared) (v ⟨succ≔ mess s ⟩ ⟨line≔ 29 ⟩) (omega arith) refl
-      (keeps28 shape (p .0) k, quiet 28 e k _ refl (omega arith)) (q ∙ simp (thread-there, set-twice))
+      (keeps28 shape (p .0) k, quiet 28 e k _ refl (omega arith)) (q ∙ simp (thread-stored, set-twice))
   keeps s′ (line29 e q) = hands-on (isBottom (succ s p)) e refl q

@@ -1,5 +1,5 @@
 -- The figure's own steps from a fresh lock and the events that the step accepts are the same: what a step of the figure needs besides to be accepted, that
--- followed nodes are in use and places remain, every reached state has. Rests on Reached, Follows and the step's `complete` and `sound`. Assumes nothing.
+-- followed nodes are in use and places remain, every reached state has. Rests on Reached, States and the step's `complete` and `sound`. Assumes nothing.
 use mathlib.Core.Bool.{true}
 use mathlib.Core.List.{List, [], _∷_}
 use mathlib.Core.Logic.{_≢_, by-cases, inl, inr}
@@ -18,9 +18,10 @@ use Rattle.step.specs.Demands.{Possible}
 use Rattle.step.specs.Step.{step, stepped}
 use Rattle.step.specs.Theorems.{accepted-possible, complete, refused-unchanged, sound}
 use Rattle.step.specs.declared.Stepped.{Stepped}
-use Rattle.theory.specs.FigureSteps.{FigureSteps, Within, doneOf}
+use Rattle.theory.specs.Demands.{doneOf}
+use Rattle.theory.specs.FigureSteps.{FigureSteps, Within}
 use Rattle.theory.specs.FigureSteps.FigureSteps.{no-steps, one-step}
-use Rattle.theory.specs.Proof.Follows.{followed-used, room}
+use Rattle.theory.specs.Proof.States.{followed-used, room}
 use Rattle.theory.specs.Proof.Reached.{Reached, event-reached}
 
 module _ {s : State} {exchanged passed : List ThreadNo} (r : Reached s exchanged passed) (e : Event) where
@@ -31,7 +32,7 @@ module _ {s : State} {exchanged passed : List ThreadNo} (r : Reached s exchanged
       record {
         thread = w .thread;
         named = w .named;
-        within = w .node;
+        within = w .within;
         entries = w .entries;
         high-places = λ l. let full : high s .0 ≢ lastPlace = λ h. room r t (inl (l, h)) in omega (arith, r .valid .shared .high);
         low-places = λ l. let full : low s .0 ≢ lastPlace = λ h. room r t (inr (l, h)) in omega (arith, r .valid .shared .low);
@@ -46,7 +47,7 @@ module _ {s : State} {exchanged passed : List ThreadNo} (r : Reached s exchanged
   within : step s (e .thread) (e .node) .answer ≡ done → Within s e
   within ok =
       let can = accepted-possible s (e .thread) (e .node) (r .valid) ok in
-      record { thread = can .thread; named = can .named; node = can .within; entries = can .entries }
+      record { thread = can .thread; named = can .named; within = can .within; entries = can .entries }
 
 pub takes-figure : {s : State} {exchanged passed : List ThreadNo} → Reached s exchanged passed → (es : List Event) (s′ : State) → FigureSteps s es s′
     → (acceptsAll step s es ≡ true) × (after step s es ≡ s′)

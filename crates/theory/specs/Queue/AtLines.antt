@@ -4,7 +4,7 @@ use mathlib.Core.Bool.{Bool, false, true}
 use Prim.Native.Nat.{ℕ, _≤_}
 use lib.Dec.{T, leb, leb→le, le→leb}
 
--- a ≤ l ≤ b
+-- a ≤ l ≤ b, as a pair, which `omega` makes and takes apart
 abbrev pub In : ℕ → ℕ → ℕ → Type 0
 In a b l = (a ≤ l) × (l ≤ b)
 
@@ -19,12 +19,14 @@ both false false X = Unit {0}
 pub record At (a b l : ℕ) (X : Type 0) : Type 0 where
   pub body : both (leb a l) (leb l b) X
 
+-- what is shown where both tests pass ..
 both-put : (b c : Bool) {X : Type 0} → (T b → T c → X) → both b c X
 both-put true true f = f tt tt
 both-put true false f = tt
 both-put false true f = tt
 both-put false false f = tt
 
+-- .. is known there
 both-get : (b c : Bool) {X : Type 0} → T b → T c → both b c X → X
 both-get true true t u x = x
 both-get true false t u x = absurd u
@@ -39,5 +41,6 @@ get {a} {b} {l} x h = both-get (leb a l) (leb l b) (le→leb a l (h .0)) (le→l
 pub put : {a b l : ℕ} {X : Type 0} → (In a b l → X) → At a b l X
 put {a} {b} {l} f = record { body = both-put (leb a l) (leb l b) (λ t u. f (leb→le a l t, leb→le l b u)) }
 
+-- what follows from what is known at these lines
 pub map : {a b l : ℕ} {X Y : Type 0} → (In a b l → X → Y) → At a b l X → At a b l Y
 map f x = put (λ h. f h (get x h))

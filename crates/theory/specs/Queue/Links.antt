@@ -44,7 +44,7 @@ module _ {a b : ℕ} {Link : Seen → Seen → ℕ → Type 0} {Last : Seen → 
 
 -- What a machine's own `Link` and `Last` have to allow: nothing is said of a thread that is out of the queue, nor of next of a thread that owns no node.
 pub record Facts (a b c d : ℕ) (Link : Seen → Seen → ℕ → Type 0) (Last : Seen → ℕ → ℕ → Type 0) : Type 0 where
-  pub nobody : (v w : Seen) (n : ℕ) → (In a b (v .line) → ⊥) → Link v w n
+  pub out-of-queue : (v w : Seen) (n : ℕ) → (In a b (v .line) → ⊥) → Link v w n
   pub link-next : (v w : Seen) (n n′ : ℕ) → (In a b (v .line) → In c d (w .line) → n′ ≡ n) → Link v w n → Link v w n′
   pub last-next : (v : Seen) (t n n′ : ℕ) → (In c d (v .line) → n′ ≡ n) → Last v t n → Last v t n′
 
@@ -58,7 +58,7 @@ module _ {a b c d : ℕ} {Link : Seen → Seen → ℕ → Type 0} {Last : Seen 
   links-exchange v e back mine =
       links th p v
       (λ r z x h. back r x (l .last r x (omega arith)))
-      (λ q z x h. facts .nobody _ _ _ (λ y. omega (arith, u .place q y)))
+      (λ q z x h. facts .out-of-queue _ _ _ (λ y. omega (arith, u .place q y)))
       (λ q r z w. l .link q r)
       (λ x h. mine)
       (λ q z x h. absurd (omega (arith, u .place q x)))

@@ -9,8 +9,8 @@ use Rattle.theory.specs.Queue.AtLines.{In}
 use Rattle.theory.specs.Queue.Functions.{by, upd, upd-other, upd-same, updated}
 use Rattle.theory.specs.Queue.Seen.{Seen}
 
--- node k, with the bit of its use and who chose it, is no ⊥ and in use, and it is thread q that chose it
-pub record Node (q k bit chooser : ℕ) : Type 0 where
+-- thread q chose node k, which is no ⊥ and in use: `bit` is the node's bit of use, and `chooser` chose it
+pub record HasNode (q k bit chooser : ℕ) : Type 0 where
   pub some : 1 ≤ k
   pub used : bit ≡ 1
   pub mine : chooser ≡ q
@@ -18,7 +18,7 @@ pub record Node (q k bit chooser : ℕ) : Type 0 where
 -- `used k` is 1 if node k is in use, and 0 if not
 pub record Nodes (first last : ℕ) (th : ℕ → Seen) (used owner : ℕ → ℕ) : Type 0 where
   -- a thread at these lines owns a node, and chose it
-  pub node : (q : ℕ) → In first last (th q .line) → Node q (th q .my) (used (th q .my)) (owner (th q .my))
+  pub node : (q : ℕ) → In first last (th q .line) → HasNode q (th q .my) (used (th q .my)) (owner (th q .my))
   -- who chose a node that is in use is at these lines, and owns it still
   pub owned : (k q : ℕ) → owner k ≡ q → used k ≡ 1 → In first last (th q .line) × (th q .my ≡ k)
 

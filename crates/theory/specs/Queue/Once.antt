@@ -2,7 +2,7 @@
 -- list of exchanges behind those that have passed; no two of them are the same, since they have different places. Who passes before a thread that
 -- exchanges behind them is one of them. For any machine with Places and Order. Assumes nothing.
 use mathlib.Core.Bool.{Bool, cond, false, true}
-use mathlib.Core.List.{List, [], _∷_, _++_}
+use mathlib.Core.List.{List, [], _∷_, _++_, append-assoc, append-cancel-left}
 use mathlib.Core.Path.{_≡_, ap, refl, sym, _∙_}
 use Prim.Native.Nat.{ℕ, suc, _+_, _-_, _≤_, _<_}
 use native.Mathlib.Decide.{decLe, decLt, ℕ-discrete}
@@ -12,15 +12,16 @@ use lib.ListN.{drop, getD, length, length-drop, take-append-drop}
 use lib.Seq.{getD-drop}
 use borrow.Author.Tests.{eqb-false, eqb-true}
 use Rattle.number.specs.declared.ThreadNo.{ThreadNo}
-use Rattle.theory.specs.Demands.{Prefix, howOften}
+use Rattle.theory.specs.Demands.{Prefix, howOften, nobody}
 use Rattle.theory.specs.Queue.AtLines.{In}
-use Rattle.theory.specs.Queue.Order.{Order, nobody}
+use Rattle.theory.specs.Queue.Order.{Order}
 use Rattle.theory.specs.Queue.Places.{Places}
 use Rattle.theory.specs.Queue.Seen.{Seen}
 
 -- ---- how often a thread stands in a list
 
-pub often-append : (t : ThreadNo) (xs ys : List ThreadNo) → howOften t (xs ++ ys) ≡ howOften t xs + howOften t ys
+-- how often in two lists, one behind the other
+often-append : (t : ThreadNo) (xs ys : List ThreadNo) → howOften t (xs ++ ys) ≡ howOften t xs + howOften t ys
 unfolding howOften
 often-append t [] ys = omega arith
 often-append t (x ∷ xs) ys = omega (arith, often-append t xs ys)
@@ -34,6 +35,7 @@ often-here t xs = go (eqb (t .0) (t .0)) refl
     go true e = refl
     go false e = absurd (eqb-false (t .0) (t .0) e refl)
 
+-- one that stands nowhere does not stand behind the first
 none-behind : (t x : ThreadNo) (xs : List ThreadNo) → howOften t (x ∷ xs) ≡ 0 → howOften t xs ≡ 0
 unfolding howOften
 none-behind t x xs h = omega arith
@@ -66,11 +68,12 @@ at-most-once (x ∷ xs) apart t =
 
 -- ---- lists that begin alike
 
+-- lists that begin alike, with one thread in front
 longer : (x z : ThreadNo) (xs zs : List ThreadNo) → x ≡ z → Prefix xs zs → Prefix (x ∷ xs) (z ∷ zs)
 longer x z xs zs same (others, whole) = (others, rw (same, whole))
 
 -- of a list that goes on with t, a front in which t does not stand ends before t
-pub ends-before : (t : ThreadNo) (xs rest zs later : List ThreadNo) → xs ++ rest ≡ zs ++ t ∷ later → howOften t xs ≡ 0 → Prefix xs zs
+ends-before : (t : ThreadNo) (xs rest zs later : List ThreadNo) → xs ++ rest ≡ zs ++ t ∷ later → howOften t xs ≡ 0 → Prefix xs zs
 ends-before t [] rest zs later e h = (zs, refl)
 ends-before t (x ∷ xs) rest [] later e h =
     let same : x ≡ t = cc in
@@ -81,56 +84,72 @@ ends-before t (x ∷ xs) rest (z ∷ zs) later e h =
     longer x z xs zs same (ends-before t xs rest zs later shorter (none-behind t x xs h))
 
 -- ---- who has exchanged and not passed
-module _ {a b c d : ℕ} {th : ℕ → Seen} {taker : ℕ → ℕ} {low high : ℕ} {exchanged passed : List ThreadNo}
-    (u : Places a d th taker low high) (o : Order a b c d th taker low high exchanged passed) (c-is : c ≡ b + 1) where
-  -- as many have passed as have left, or one more
-  left-passed : low ≤ length passed + 1
-  left-passed = go (ℕ-discrete low high)
-    where
-      front : (q : ℕ) → In a d (th q .line) → th q .slot ≡ low → low ≤ length passed + 1
-      front q h e = elim (decLe (th q .line) b) [ yes x ↦ omega (arith, o .before q (h .0, x) e) | no x ↦ omega (arith, o .after q (omega arith)) ]
-
-      go : Dec (low ≡ high) → low ≤ length passed + 1
-      go (yes e) = omega (arith, o .empty e)
-      go (no n) = let y = u .held low (taker low) refl (omega arith) (omega (arith, u .order)) in front (taker low) (y .0) (y .1)
-
-  -- no thread took two places from low up to high
-  one-taker : (j k : ℕ) → low ≤ j → j < high → low ≤ k → k < high → taker j ≡ taker k → j ≡ k
-  one-taker j k w x y z e = omega (arith, u .held j (taker k) e w x .1, u .held k (taker k) refl y z .1)
-
-  abbrev pub waiting : List ThreadNo
-  waiting = drop (length passed) exchanged
+module _ {first section last : ℕ} {th : ℕ → Seen} {taker : ℕ → ℕ} {low high : ℕ} {exchanged passed : List ThreadNo}
+    (o : Order first section last th taker low high exchanged passed) where
+  abbrev pub toPass : List ThreadNo
+  toPass = drop (length passed) exchanged
 
   -- the exchanges are the passages, and then those of these threads
-  pub passed-first : exchanged ≡ passed ++ waiting
-  passed-first = sym (take-append-drop (length passed) exchanged) ∙ ap (λ (xs : List ThreadNo). xs ++ waiting) (sym (o .first))
+  pub passed-first : exchanged ≡ passed ++ toPass
+  passed-first = sym (take-append-drop (length passed) exchanged) ∙ ap (λ (xs : List ThreadNo). xs ++ toPass) (sym (o .first-passed))
 
-  -- no thread stands among them twice
-  pub waiting-once : (t : ThreadNo) → howOften t waiting ≤ 1
-  waiting-once = at-most-once waiting apart
-    where
-      inside : (i : ℕ) → i < length waiting → length passed + i < length exchanged
-      inside i x = omega (arith, length-drop (length passed) exchanged)
+  module _ (u : Places first last th taker low high) where
+    -- at least as many have passed as have left
+    left-passed : low ≤ length passed + 1
+    left-passed = go (ℕ-discrete low high)
+      where
+        front : (q : ℕ) → In first last (th q .line) → th q .slot ≡ low → low ≤ length passed + 1
+        front q h e = elim (decLe (th q .line) section)
+            [ yes x ↦ omega (arith, o .before q (h .0, x) e) | no x ↦ omega (arith, o .past q (omega arith)) ]
 
-      place : (i : ℕ) → i < length waiting → getD waiting i nobody .0 ≡ taker (length passed + i + 1)
-      place i x = ap (λ (t : ThreadNo). t .0) (getD-drop (length passed) exchanged i nobody ∙ o .names (length passed + i) (inside i x))
+        go : Dec (low ≡ high) → low ≤ length passed + 1
+        go (yes e) = omega (arith, o .empty e)
+        go (no n) = let y = u .held low (taker low) refl (omega arith) (omega (arith, u .order)) in front (taker low) (y .0) (y .1)
 
-      apart : (i j : ℕ) → i < length waiting → j < length waiting → getD waiting i nobody .0 ≡ getD waiting j nobody .0 → i ≡ j
-      apart i j x y e =
-          let m = left-passed in
-          let v = inside i x in
-          let w = inside j y in
-          let n = o .size in
-          omega (
-            arith,
-            one-taker (length passed + i + 1) (length passed + j + 1) (omega arith) (omega arith) (omega arith) (omega arith)
-                (sym (place i x) ∙ e ∙ place j y),
-          )
+    -- no thread took two places from low to high - 1
+    one-taker : (j k : ℕ) → low ≤ j → j < high → low ≤ k → k < high → taker j ≡ taker k → j ≡ k
+    one-taker j k w x y z e = omega (arith, u .held j (taker k) e w x .1, u .held k (taker k) refl y z .1)
 
-  -- Who passes before t, where t exchanged behind them, is one of them: so no thread passes twice.
-  pub passes-once : (t : ThreadNo) (since rest later : List ThreadNo) → since ++ rest ≡ waiting ++ t ∷ later → howOften t since ≡ 0
-      → (v : ThreadNo) → howOften v since ≤ 1
-  passes-once t since rest later e h v = at-most (ends-before t since rest waiting later e h)
-    where
-      at-most : Prefix since waiting → howOften v since ≤ 1
-      at-most (others, whole) = omega (arith, waiting-once v, ap (howOften v) whole, often-append v since others)
+    -- so no thread stands among them twice
+    once-to-pass : (t : ThreadNo) → howOften t toPass ≤ 1
+    once-to-pass = at-most-once toPass apart
+      where
+        inside : (i : ℕ) → i < length toPass → length passed + i < length exchanged
+        inside i x = omega (arith, length-drop (length passed) exchanged)
+
+        place : (i : ℕ) → i < length toPass → getD toPass i nobody .0 ≡ taker (length passed + i + 1)
+        place i x = ap (λ (t : ThreadNo). t .0) (getD-drop (length passed) exchanged i nobody ∙ o .names (length passed + i) (inside i x))
+
+        apart : (i j : ℕ) → i < length toPass → j < length toPass → getD toPass i nobody .0 ≡ getD toPass j nobody .0 → i ≡ j
+        apart i j x y e =
+            let m = left-passed in
+            let v = inside i x in
+            let w = inside j y in
+            let n = o .size in
+            omega (
+              arith,
+              one-taker (length passed + i + 1) (length passed + j + 1) (omega arith) (omega arith) (omega arith) (omega arith)
+                  (sym (place i x) ∙ e ∙ place j y),
+            )
+
+    -- ---- later on: t has exchanged behind them, others after it, and `since` are the threads that have passed since then
+    module _ {th′ : ℕ → Seen} {taker′ : ℕ → ℕ} {low′ high′ : ℕ} (t : ThreadNo) (others since : List ThreadNo)
+        (o′ : Order first section last th′ taker′ low′ high′ (exchanged ++ t ∷ others) (passed ++ since)) where
+      -- who has passed since then is the front of these threads, of t, and of the others
+      front-passed : Prefix since (toPass ++ t ∷ others)
+      front-passed =
+          let rest = drop (length (passed ++ since)) (exchanged ++ t ∷ others) in
+          let whole = sym (take-append-drop (length (passed ++ since)) (exchanged ++ t ∷ others)) in
+          let later = whole ∙ ap (λ (xs : List ThreadNo). xs ++ rest) (sym (o′ .first-passed)) ∙ append-assoc passed since rest in
+          let before = ap (λ (xs : List ThreadNo). xs ++ t ∷ others) passed-first in
+          (rest, append-cancel-left passed _ _ (sym (append-assoc passed toPass (t ∷ others)) ∙ sym before ∙ later))
+
+      -- As long as t is none of them, no thread has passed twice.
+      pub once-between : howOften t since ≡ 0 → (v : ThreadNo) → howOften v since ≤ 1
+      once-between none v = go front-passed
+        where
+          at-most : Prefix since toPass → howOften v since ≤ 1
+          at-most (rest, whole) = omega (arith, once-to-pass v, ap (howOften v) whole, often-append v since rest)
+
+          go : Prefix since (toPass ++ t ∷ others) → howOften v since ≤ 1
+          go (rest, whole) = at-most (ends-before t since rest toPass others (sym whole) none)

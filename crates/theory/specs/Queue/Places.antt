@@ -1,17 +1,18 @@
--- Places in a queue. The threads at the lines `first` to `last` have one place each, and the places are those from low up to high. For any machine: the lines
+-- Places in a queue. The threads at the lines `first` to `last` have one place each, and the places are those from low to high - 1. For any machine: the lines
 -- are parameters. That two threads never have one place is not said pair by pair: `taker` gives who took a place, and a thread is the taker of its own.
 -- A step does one of three things to the queue: nothing (`places-stay`), one more at its end (`places-in`), or one less at its front (`places-out`). Places are
 -- counted over the whole history, so a rebasing of a state's numbers changes nothing here. Assumes nothing.
 use mathlib.Core.Logic.{_≢_}
 use mathlib.Core.Path.{_≡_, refl}
 use Prim.Native.Nat.{ℕ, _+_, _-_, _≤_, _<_}
+use native.Mathlib.Decide.{decLe, ℕ-discrete}
 use native.Mathlib.Omega.{arith}
 use Rattle.theory.specs.Queue.AtLines.{In}
 use Rattle.theory.specs.Queue.Functions.{by, upd, upd-other, upd-same}
 use Rattle.theory.specs.Queue.Seen.{Seen}
 
--- place k, which `taker` took, is one of those from low up to high, and it is thread q that took it
-pub record Place (q k low high taker : ℕ) : Type 0 where
+-- place k, which `taker` took, is one of those from low to high - 1, and it is thread q that took it
+pub record HasPlace (q k low high taker : ℕ) : Type 0 where
   pub from : low ≤ k
   pub to : k < high
   pub mine : taker ≡ q
@@ -19,8 +20,8 @@ pub record Place (q k low high taker : ℕ) : Type 0 where
 pub record Places (first last : ℕ) (th : ℕ → Seen) (taker : ℕ → ℕ) (low high : ℕ) : Type 0 where
   pub order : low ≤ high
   -- a thread in the queue has a place, and took it
-  pub place : (q : ℕ) → In first last (th q .line) → Place q (th q .slot) low high (taker (th q .slot))
-  -- who took a place from low up to high is in the queue, and has it still
+  pub place : (q : ℕ) → In first last (th q .line) → HasPlace q (th q .slot) low high (taker (th q .slot))
+  -- who took a place from low to high - 1 is in the queue, and has it still
   pub held : (k q : ℕ) → taker k ≡ q → low ≤ k → k < high → In first last (th q .line) × (th q .slot ≡ k)
 
 module _ {first last : ℕ} {th : ℕ → Seen} {taker : ℕ → ℕ} {low high : ℕ} (u : Places first last th taker low high) where
@@ -37,6 +38,27 @@ module _ {first last : ℕ} {th : ℕ → Seen} {taker : ℕ → ℕ} {low high 
       let v = u .place q x in
       let y = u .held (th q .slot - 1) _ refl (omega arith) (omega arith) in
       (taker (th q .slot - 1), y .0, omega arith)
+
+  -- each place from low to high - 1 is somebody's ..
+  pub holder : (k : ℕ) → low ≤ k → k < high → (q : ℕ) × Queued q × (th q .slot ≡ k)
+  holder k from to = let x = u .held k (taker k) refl from to in (taker k, x .0, x .1)
+
+  -- .. so where the queue is not empty, somebody is the last
+  pub last-one : low ≢ high → (q : ℕ) × Queued q × (th q .slot + 1 ≡ high)
+  last-one h =
+      let order = u .order in
+      let q = holder (high - 1) (omega arith) (omega arith) in
+      (q .0, q .1, omega arith)
+
+  -- thread q has place k, or it has not
+  pub at-place : {X : Type 0} (q k : ℕ) → (Queued q → th q .slot ≡ k → X) → ((Queued q → th q .slot ≢ k) → X) → X
+  at-place {X} q k there elsewhere = go (ℕ-discrete (th q .slot) k) (decLe first (th q .line)) (decLe (th q .line) last)
+    where
+      go : Dec (th q .slot ≡ k) → Dec (first ≤ th q .line) → Dec (th q .line ≤ last) → X
+      go (yes s) (yes a) (yes b) = there (a, b) s
+      go (yes s) (yes a) (no b) = elsewhere (λ x. absurd (b (x .1)))
+      go (yes s) (no a) b = elsewhere (λ x. absurd (a (x .0)))
+      go (no s) a b = elsewhere (λ _. s)
 
   -- where p is at the front, no other thread is
   pub behind-front : (p : ℕ) → th p .slot ≡ low → Queued p → (q : ℕ) → q ≢ p → Queued q → low < th q .slot

@@ -1,4 +1,4 @@
--- A thread, as the theory sees it: plain numbers. Both the line and the slot are as the machine's own view gives them (Proof/View): a thread that only
+-- A thread, as the theory sees it: plain numbers. Both the line and the slot are as the machine's own view gives them (View): a thread that only
 -- looks is seen at the line it goes on to, and slots are counted over the whole history. Assumes nothing.
 use mathlib.Core.Path.{_≡_}
 use Prim.Native.Nat.{ℕ}

@@ -12,6 +12,7 @@ use Rattle.lock.specs.State.{nth, setNth, zeroNode, zeroThread}
 use Rattle.lock.specs.declared.Node.{Node}
 use Rattle.lock.specs.declared.Thread.{Thread}
 use Rattle.number.specs.Numbers.{node}
+use Rattle.number.specs.Sizes.{mostNodes}
 use Rattle.number.specs.declared.NodeNo.{NodeNo}
 use Rattle.theory.specs.Queue.Functions.{by, upd, upd-other, upd-same}
 use Rattle.theory.specs.Queue.Seen.{Seen}
@@ -78,14 +79,17 @@ module _ (xs : List Node) (i : ℕ) (v : Node) (from : 1 ≤ i) (to : i ≤ leng
 
 -- ---- the word of nodes in use
 
+-- a node in use is seen as 1 ..
 pub used-is : (w : ℕ) (k : NodeNo) → inUse w k ≡ true → usedIn w (k .0) ≡ 1
 unfolding usedIn
 used-is w k h = rw h
 
+-- .. one that is not, as 0 ..
 pub used-not : (w : ℕ) (k : NodeNo) → inUse w k ≡ false → usedIn w (k .0) ≡ 0
 unfolding usedIn
 used-not w k h = rw h
 
+-- .. and what is seen as 1 is in use
 pub is-used : (w : ℕ) (k : NodeNo) → usedIn w (k .0) ≡ 1 → inUse w k ≡ true
 unfolding usedIn
 is-used w k h = go (inUse w k) h
@@ -94,6 +98,7 @@ is-used w k h = go (inUse w k) h
     go true e = refl
     go false e = absurd (omega arith)
 
+-- in the word 0 none is seen in use
 pub used-none : (k : ℕ) → usedIn 0 k ≡ 0
 used-none k = used-not 0 (node k) (in-none (node k))
 
@@ -104,7 +109,7 @@ alike w w′ k e = rw e
 
 module _ (w : ℕ) (k : NodeNo) where
   -- a node that is put in ..
-  pub used-put : 1 ≤ k .0 → k .0 ≤ 32 → usedIn (putIn w k) ≡ upd (usedIn w) (k .0) 1
+  pub used-put : 1 ≤ k .0 → k .0 ≤ mostNodes → usedIn (putIn w k) ≡ upd (usedIn w) (k .0) 1
   used-put from to = fun-ext (by (k .0)
       (used-is (putIn w k) k (in-put-same w k (has-bit k from to)) ∙ sym (upd-same (usedIn w) (k .0) 1))
       (λ q n. alike (putIn w k) w q (in-put-other w (node q) k n) ∙ sym (upd-other (usedIn w) (k .0) 1 q n)))

@@ -6,10 +6,10 @@ use Prim.Native.Nat.{ℕ, _≤_, _<_}
 use native.Mathlib.Decide.{decLe, ℕ-discrete}
 use native.Mathlib.Omega.{arith}
 use Rattle.theory.specs.Queue.AtLines.{In, get}
-use Rattle.theory.specs.Queue.Places.{one-place}
+use Rattle.theory.specs.Queue.Places.{holder, last-one, one-place}
 use Rattle.theory.specs.Queue.Seen.{Seen}
-use Rattle.theory.specs.Shape.Memory.{Memory}
-use Rattle.theory.specs.Shape.Neighbours.{before-18, behind, behind-29, holder, last-one, one-behind}
+use Rattle.theory.specs.Queue.Memory.{Memory}
+use Rattle.theory.specs.Shape.Neighbours.{before-18, behind, behind-29, one-behind}
 use Rattle.theory.specs.Shape.Shape.{Shape}
 
 -- k is a node, and in use
@@ -46,7 +46,7 @@ module _ {m : Memory} {th : ℕ → Seen} (i : Shape m th) where
   tells p e unset =
       let q = one-behind i p (omega arith) (omega arith) in
       let b = behind i p (q .0) (omega arith) (q .1) (q .2) in
-      let not-16 : th (q .0) .line ≢ 16 = λ l. omega (arith, get (b .link .cut) (omega arith)) in
+      let not-16 : th (q .0) .line ≢ 16 = λ l. omega (arith, get (b .link .apart) (omega arith)) in
       let not-19 : th (q .0) .line ≢ 19 = λ l.
       omega (arith, get (get (b .link .linked) (omega arith) .set) (omega arith), i .nodes .node (q .0) (omega arith)) in
       (q .0, omega arith)
@@ -75,7 +75,7 @@ module _ {m : Memory} {th : ℕ → Seen} (i : Shape m th) where
       go : Dec (16 ≤ th p .line) → (q : ℕ) × Able m (th q)
       go (yes l) =
           let x = i .places .place p (l, i .own p .private .line-range) in
-          let f = holder i (m .low) (omega arith) (omega arith) in
+          let f = holder (i .places) (m .low) (omega arith) (omega arith) in
           front-goes (f .0) (f .1) (f .2)
       go (no l) = (p, omega arith)
 
@@ -95,7 +95,7 @@ module _ {m : Memory} {th : ℕ → Seen} (i : Shape m th) where
   pub free-empty : m .tail ≡ 0 → m .flag ≡ 1 → m .low ≡ m .high
   free-empty unset raised =
       let n : ¬ (m .low < m .high) = λ h.
-      let z = last-one i (omega arith) in
+      let z = last-one (i .places) (omega arith) in
       let c = i .links .last (z .0) (z .1) (z .2) .closed unset in
       omega (arith, get (i .own (z .0) .turn .inside) (omega arith)) in
       omega (arith, i .places .order)

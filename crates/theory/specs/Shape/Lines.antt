@@ -13,14 +13,14 @@ use Rattle.theory.specs.Queue.AtLines.{In, get, map, put}
 use Rattle.theory.specs.Queue.Functions.{by, upd, upd-at, upd-other, upd-same}
 use Rattle.theory.specs.Queue.Links.{links, links-exchange, links-out, links-tell, tell-far}
 use Rattle.theory.specs.Queue.Nodes.{node-apart, nodes-in, nodes-out, nodes-stay, one-owner}
-use Rattle.theory.specs.Queue.Places.{behind-front, one-place, places-in, places-out, places-stay}
+use Rattle.theory.specs.Queue.Places.{at-place, behind-front, one-place, places-in, places-out, places-stay}
 use Rattle.theory.specs.Queue.Seen.{Seen, at-line, _⟦line≔_⟧, _⟦my≔_⟧, _⟦nxmy≔_⟧, _⟦prev≔_⟧, _⟦slot≔_⟧, _⟦succ≔_⟧}
-use Rattle.theory.specs.Shape.Memory.{Memory, _⟦flag≔_⟧, _⟦high≔_⟧, _⟦locked≔_⟧, _⟦low≔_⟧, _⟦mess≔_⟧}
-use Rattle.theory.specs.Shape.Memory.{_⟦next≔_⟧, _⟦owner≔_⟧, _⟦tail≔_⟧, _⟦taker≔_⟧, _⟦used≔_⟧}
+use Rattle.theory.specs.Queue.Memory.{Memory, _⟦flag≔_⟧, _⟦high≔_⟧, _⟦locked≔_⟧, _⟦low≔_⟧, _⟦mess≔_⟧}
+use Rattle.theory.specs.Queue.Memory.{_⟦next≔_⟧, _⟦owner≔_⟧, _⟦tail≔_⟧, _⟦taker≔_⟧, _⟦used≔_⟧}
 use Rattle.theory.specs.Shape.Moves.{Moves, by-test, each, facts, goes-on, here, last-moves, link-moves, locked-apart, moves, next-apart}
 use Rattle.theory.specs.Shape.Moves.{readies, turn-behind}
-use Rattle.theory.specs.Shape.Neighbours.{at-place, before-18, behind-29, behind-29-none, front-16, tail-last}
-use Rattle.theory.specs.Shape.Shape.{Last, Link, Own, Shape, Shared, Turn}
+use Rattle.theory.specs.Shape.Neighbours.{before-18, behind-29, behind-29-none, front-16, tail-last}
+use Rattle.theory.specs.Shape.Shape.{Last, Link, Own, Shape, SharedShape, Turn}
 
 module _ {m : Memory} {th : ℕ → Seen} (i : Shape m th) (p : ℕ) where
   -- locked is 0 or 1 everywhere, also where one of these is stored in it
@@ -131,11 +131,11 @@ module _ {m : Memory} {th : ℕ → Seen} (i : Shape m th) (p : ℕ) where
         own = each i p (m ⟦next≔ upd (m .next) (th p .prev) (th p .my) ⟧) w (omega arith)
             (λ q d.
             let x = i .own q in
-            let next = next-apart (λ owner n. far q (λ same. n (rw same (unlinked .before))) owner) (x .next) in
+            let next = next-apart (λ owner n. far q (λ same. n (rw same (unlinked .up-to-23))) owner) (x .next) in
             record { private = x .private; next = next; turn = x .turn; mess = x .mess });
         links =
             links-tell facts (i .places) (i .nodes) (i .links) p 19 r (omega arith) (omega arith) (omega arith) (omega arith) behind (unlinked .prev)
-            (record { unlinked = omega arith; linked = put λ _. record { set = put λ x. refl; seen = put λ x. omega arith }; cut = omega arith })
+            (record { unlinked = omega arith; linked = put λ _. record { set = put λ x. refl; seen = put λ x. omega arith }; apart = omega arith })
             (λ q. link-moves g (th q))
             (last-moves g);
       }
@@ -179,7 +179,7 @@ module _ {m : Memory} {th : ℕ → Seen} (i : Shape m th) (p : ℕ) where
         links =
             links th p w
             (λ r d x h. omega arith)
-            (λ q d x h. facts .nobody _ _ _ (λ y. omega (arith, i .places .place q y)))
+            (λ q d x h. facts .out-of-queue _ _ _ (λ y. omega (arith, i .places .place q y)))
             (λ q r d c. i .links .link q r)
             (λ x h. omega arith)
             (λ q d x h. absurd (d (one-place (i .places) q p x (omega arith) (omega arith))));
@@ -233,7 +233,7 @@ module _ {m : Memory} {th : ℕ → Seen} (i : Shape m th) (p : ℕ) where
   -- ---- out
 
   -- p leaves: whoever was behind it is at the front then, and nothing changes for the others
-  leaves : (flag : ℕ) (locked : ℕ → ℕ) → th p .line ≡ 29 → Shared flag (m .low + 1) (m .high) (m .tail) locked
+  leaves : (flag : ℕ) (locked : ℕ → ℕ) → th p .line ≡ 29 → SharedShape flag (m .low + 1) (m .high) (m .tail) locked
       → ((q : ℕ) → In 16 29 (th q .line) → th q .slot ≡ th p .slot + 1 → Turn (th q .line) (th q .slot) (locked (th q .my)) (m .low + 1) flag)
       → ((q : ℕ) → (In 16 29 (th q .line) → th q .slot ≢ th p .slot + 1) → In 12 26 (th q .line) → locked (th q .my) ≡ m .locked (th q .my))
       → Shape (m ⟦flag≔ flag ⟧ ⟦locked≔ locked ⟧ ⟦low≔ m .low + 1 ⟧) (upd th p (th p ⟦line≔ 11 ⟧))
@@ -249,7 +249,7 @@ module _ {m : Memory} {th : ℕ → Seen} (i : Shape m th) (p : ℕ) where
             (λ q d.
             let x = i .own q in
             let range = i .shared .locked-range (th q .my) in
-            let turn = at-place i q (th p .slot + 1) (front q) (λ n.
+            let turn = at-place (i .places) q (th p .slot + 1) (front q) (λ n.
             locked-apart (far q n) (turn-behind (behind q d) (λ y. omega (arith, behind q d y, n y)) range (shared .flag-range) (x .turn))) in
             record { private = x .private; next = x .next; turn = turn; mess = x .mess });
         links = links-out th p w (i .links) (omega arith) (λ u n. omega arith) (λ r d q l. l) (λ r d l. l);
@@ -293,7 +293,7 @@ module _ {m : Memory} {th : ℕ → Seen} (i : Shape m th) (p : ℕ) where
         locked-range = i .shared .locked-range;
       })
       (λ q x h.
-      let shut = i .own q .turn .shut in
+      let still-locked = i .own q .turn .still-locked in
       let l = behind-29-none i p e none q x h in
-      rw l (omega (arith, get shut (omega arith))))
+      rw l (omega (arith, get still-locked (omega arith))))
       (λ q n x. refl)

@@ -12,26 +12,26 @@ use borrow.Author.Tests.{eq-eqb, ne-eqb}
 use Rattle.theory.specs.Queue.AtLines.{At, In, map, put}
 use Rattle.theory.specs.Queue.Functions.{by, upd, upd-other, upd-same}
 use Rattle.theory.specs.Queue.Links.{Facts, links, links-out}
-use Rattle.theory.specs.Queue.Nodes.{Node, Nodes, nodes-stay}
-use Rattle.theory.specs.Queue.Places.{Place, places-stay}
+use Rattle.theory.specs.Queue.Nodes.{HasNode, Nodes, nodes-stay}
+use Rattle.theory.specs.Queue.Places.{HasPlace, places-stay}
 use Rattle.theory.specs.Queue.Seen.{Seen, at-line, _⟦line≔_⟧, _⟦my≔_⟧, _⟦nxmy≔_⟧, _⟦succ≔_⟧}
-use Rattle.theory.specs.Shape.Memory.{Memory, _⟦flag≔_⟧, _⟦locked≔_⟧, _⟦mess≔_⟧, _⟦next≔_⟧, _⟦owner≔_⟧, _⟦used≔_⟧}
-use Rattle.theory.specs.Shape.Shape.{CutOff, Last, Link, Linked, Open, Own, OwnNext, Shape, Turn, Unlinked}
+use Rattle.theory.specs.Queue.Memory.{Memory, _⟦flag≔_⟧, _⟦locked≔_⟧, _⟦mess≔_⟧, _⟦next≔_⟧, _⟦owner≔_⟧, _⟦used≔_⟧}
+use Rattle.theory.specs.Shape.Shape.{ClosedBehind, Last, Link, Linked, Open, Own, OwnNext, Shape, Turn, Unlinked}
 
 -- ---- where what is said of a thread does not change
 
 -- `Link` and `Last` say nothing of a thread out of the queue, nor of next of a thread that owns no node
 pub facts : Facts 16 29 12 26 Link Last
 facts = record {
-  nobody = λ v w n out. record {
+  out-of-queue = λ v w n out. record {
     unlinked = put λ x. absurd (out (omega arith));
     linked = put λ x. absurd (out (omega arith));
-    cut = put λ x. absurd (out (omega arith));
+    apart = put λ x. absurd (out (omega arith));
   };
   link-next = λ v w n n′ same l. record {
     unlinked = map (λ x u. omega (arith, same (omega arith) (omega arith))) (l .unlinked);
     linked = map (λ x u. record { set = map (λ y s. omega (arith, same (omega arith) (omega arith))) (u .set); seen = u .seen }) (l .linked);
-    cut = l .cut;
+    apart = l .apart;
   };
   last-next = λ v t n n′ same l. record { opened = λ z. let o = l .opened z in omega (arith, same (omega arith)); closed = l .closed };
 }
@@ -47,7 +47,7 @@ next-apart same x = record {
 pub locked-apart : {line slot locked locked′ low flag : ℕ} → (In 12 26 line → locked′ ≡ locked)
     → Turn line slot locked low flag → Turn line slot locked′ low flag
 locked-apart same x = record {
-  shut = map (λ y z. omega (arith, same (omega arith))) (x .shut);
+  still-locked = map (λ y z. omega (arith, same (omega arith))) (x .still-locked);
   for-flag = x .for-flag;
   flag-found = x .flag-found;
   behind = x .behind;
@@ -59,7 +59,7 @@ locked-apart same x = record {
 pub turn-behind : {line slot locked low low′ flag flag′ : ℕ} → (In 16 29 line → low < slot) → (In 16 29 line → low′ < slot) → locked ≤ 1 → flag′ ≤ 1
     → Turn line slot locked low flag → Turn line slot locked low′ flag′
 turn-behind was still k f x = record {
-  shut = x .shut;
+  still-locked = x .still-locked;
   for-flag = put (λ y. omega (arith, still (omega arith)));
   flag-found = map (λ y z. absurd (omega (arith, was (omega arith)))) (x .flag-found);
   behind = put (λ y. still (omega arith));
@@ -76,7 +76,7 @@ turn-behind was still k f x = record {
 pub record Moves (v w : Seen) (next tail : ℕ) : Type 0 where
   pub unlinked : (u : Seen) → Unlinked u v next → Unlinked u w next
   pub linked : (u : Seen) → Linked u v next → Linked u w next
-  pub cut : CutOff v → CutOff w
+  pub apart : ClosedBehind v → ClosedBehind w
   pub opened : tail ≢ 0 → Open v tail next → Open w tail next
 
 module _ {v w : Seen} {next tail : ℕ} (g : Moves v w next tail) where
@@ -85,12 +85,12 @@ module _ {v w : Seen} {next tail : ℕ} (g : Moves v w next tail) where
   link-moves u l = record {
     unlinked = map (λ _. g .unlinked u) (l .unlinked);
     linked = map (λ _. g .linked u) (l .linked);
-    cut = map (λ _. g .cut) (l .cut);
+    apart = map (λ _. g .apart) (l .apart);
   }
 
   -- .. and of it as the last
   pub last-moves : Last v tail next → Last w tail next
-  last-moves l = record { opened = λ z. g .opened z (l .opened z); closed = λ z. g .cut (l .closed z) }
+  last-moves l = record { opened = λ z. g .opened z (l .opened z); closed = λ z. g .apart (l .closed z) }
 
 -- What is left to show of it, with m for memory after the step. Nothing is said of it and the thread before it then, as at 17 and from 20 on.
 pub record GoesOn (m : Memory) (v w : Seen) : Type 0 where
@@ -108,8 +108,8 @@ moved v l s n = v ⟦succ≔ s ⟧ ⟦nxmy≔ n ⟧ ⟦line≔ l ⟧
 -- all that is known of thread p, which is v, at line k
 pub record Here (m : Memory) (p : ℕ) (v : Seen) (k : ℕ) : Type 0 where
   pub own : Own m (v ⟦line≔ k ⟧)
-  pub node : At 12 26 k (Node p (v .my) (m .used (v .my)) (m .owner (v .my)))
-  pub place : At 16 29 k (Place p (v .slot) (m .low) (m .high) (m .taker (v .slot)))
+  pub node : At 12 26 k (HasNode p (v .my) (m .used (v .my)) (m .owner (v .my)))
+  pub place : At 16 29 k (HasPlace p (v .slot) (m .low) (m .high) (m .taker (v .slot)))
 
 -- ---- a step of thread p
 module _ {m : Memory} {th : ℕ → Seen} (i : Shape m th) (p : ℕ) where
@@ -158,7 +158,7 @@ module _ {m : Memory} {th : ℕ → Seen} (i : Shape m th) (p : ℕ) where
             });
         links =
             links-out th p w (i .links) (λ x. omega arith)
-            (λ u k. facts .nobody w u k (λ x. omega arith))
+            (λ u k. facts .out-of-queue w u k (λ x. omega arith))
             (λ r d q. facts .link-next _ _ _ _ (λ _. next-same r d))
             (λ r d. facts .last-next _ _ _ _ (next-same r d));
       }

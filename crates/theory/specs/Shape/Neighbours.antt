@@ -1,15 +1,15 @@
 -- Who stands where: what the shape says of the thread before another, of the one behind it, and of the last. Lines.antt needs these facts where a line waits
--- (16) or reaches another thread (18, 22, 29), and Goes.antt needs them again. Each goes by the lines at which the other thread cannot be. Assumes nothing.
+-- (16) or reaches another thread (18, 22, 29), and Goes.antt needs them again. Each is shown by ruling out lines at which the other thread cannot be.
+-- Assumes nothing.
 use mathlib.Core.Logic.{_≢_}
-use mathlib.Core.Path.{_≡_, ap, refl, _∙_}
+use mathlib.Core.Path.{_≡_, ap, _∙_}
 use Prim.Native.Nat.{ℕ, _+_, _-_, _≤_, _<_}
-use native.Mathlib.Decide.{decLe, ℕ-discrete}
 use native.Mathlib.Omega.{arith}
 use Rattle.theory.specs.Queue.AtLines.{In, get}
 use Rattle.theory.specs.Queue.Nodes.{one-owner}
-use Rattle.theory.specs.Queue.Places.{before}
+use Rattle.theory.specs.Queue.Places.{before, holder, last-one}
 use Rattle.theory.specs.Queue.Seen.{Seen}
-use Rattle.theory.specs.Shape.Memory.{Memory}
+use Rattle.theory.specs.Queue.Memory.{Memory}
 use Rattle.theory.specs.Shape.Shape.{Link, Shape, Unlinked}
 
 -- thread v, behind w: it is at 16, 18 or 19, and for each of these `link` says how it stands with w
@@ -29,31 +29,12 @@ module _ {m : Memory} {th : ℕ → Seen} (i : Shape m th) where
   abbrev Queued : ℕ → Type 0
   Queued q = In 16 29 (th q .line)
 
-  -- ---- places
-
-  -- each place from low up to high is somebody's
-  pub holder : (k : ℕ) → m .low ≤ k → k < m .high → (q : ℕ) × Queued q × (th q .slot ≡ k)
-  holder k from to = let x = i .places .held k (m .taker k) refl from to in (m .taker k, x .0, x .1)
-
-  -- thread q has place k, or it has not
-  pub at-place : {X : Type 0} (q k : ℕ) → (Queued q → th q .slot ≡ k → X) → ((Queued q → th q .slot ≢ k) → X) → X
-  at-place {X} q k there elsewhere = go (ℕ-discrete (th q .slot) k) (decLe 16 (th q .line))
-    where
-      go : Dec (th q .slot ≡ k) → Dec (16 ≤ th q .line) → X
-      go (yes s) (yes l) = there (l, i .own q .private .line-range) s
-      go (yes s) (no l) = elsewhere (λ x. absurd (l (x .0)))
-      go (no s) l = elsewhere (λ _. s)
-
   -- ---- the last one
-
-  -- (d) where the queue is not empty, somebody is the last
-  pub last-one : m .low ≢ m .high → (q : ℕ) × Queued q × (th q .slot + 1 ≡ m .high)
-  last-one h = let q = holder (m .high - 1) (omega arith) (omega arith) in (q .0, q .1, omega arith)
 
   -- whose node is the tail, is the last
   pub tail-last : (p : ℕ) → In 16 22 (th p .line) → m .tail ≡ th p .my → th p .slot + 1 ≡ m .high
   tail-last p x e =
-      let z = last-one (omega (arith, i .places .place p (omega arith))) in
+      let z = last-one (i .places) (omega (arith, i .places .place p (omega arith))) in
       let o = i .links .last (z .0) (z .1) (z .2) .opened (omega (arith, i .nodes .node p (omega arith))) in
       ap (λ q. th q .slot + 1) (one-owner (i .nodes) p (z .0) (omega arith) (omega arith) (omega arith)) ∙ z .2
 
@@ -65,7 +46,7 @@ module _ {m : Memory} {th : ℕ → Seen} (i : Shape m th) where
       let l = i .links .last p (omega arith) e in
       let set : m .tail ≢ 0 = λ z. h (l .closed z .closed .0) (l .closed z .none-seen) in
       omega (arith, l .opened set) in
-      holder (th p .slot + 1) (omega arith) (omega arith)
+      holder (i .places) (th p .slot + 1) (omega arith) (omega arith)
 
   -- ---- the thread before
 
@@ -74,11 +55,11 @@ module _ {m : Memory} {th : ℕ → Seen} (i : Shape m th) where
   front-16 p e raised =
       let at-front : ¬ (m .low < th p .slot) = λ h.
       let r = before (i .places) p (omega arith) h in
-      let c = get (i .links .link p (r .0) (r .1) (r .2) .cut) (omega arith) in
+      let c = get (i .links .link p (r .0) (r .1) (r .2) .apart) (omega arith) in
       omega (arith, get (i .own (r .0) .turn .inside) (omega arith)) in
       omega (arith, i .places .place p (omega arith))
 
-  -- (a) at 18 there is a thread before: prev is its node, which it owns still
+  -- at 18 there is a thread before: prev is its node, which it owns still
   pub before-18 : (p : ℕ) → th p .line ≡ 18 → (r : ℕ) × (th p .slot ≡ th r .slot + 1) × Unlinked (th p) (th r) (m .next (th r .my))
   before-18 p e =
       let r = before (i .places) p (omega arith) (get (i .own p .turn .behind) (omega arith)) in
@@ -93,18 +74,18 @@ module _ {m : Memory} {th : ℕ → Seen} (i : Shape m th) where
       let not-inside : ¬ (20 ≤ th q .line) = λ l. omega (arith, get (i .own q .turn .inside) (omega arith)) in
       record { range = omega arith; not-17 = λ l. omega (arith, get (i .own q .turn .flag-found) (omega arith)); link = i .links .link q p x e }
 
-  -- (b) at 29 with a successor, the thread behind waits at 19, and its node is succ
+  -- at 29 with a successor, the thread behind waits at 19, and its node is succ
   pub behind-29 : (p : ℕ) → th p .line ≡ 29 → th p .succ ≢ 0 → (q : ℕ) × Succeeds (th q) (th p)
   behind-29 p e some =
       let s = get (i .own p .private .returned) (omega arith) in
       let q = one-behind p (omega arith) (omega arith) in
       let b = behind p (q .0) (omega arith) (q .1) (q .2) in
-      let not-16 : th (q .0) .line ≢ 16 = λ l. omega (arith, get (b .link .cut) (omega arith)) in
+      let not-16 : th (q .0) .line ≢ 16 = λ l. omega (arith, get (b .link .apart) (omega arith)) in
       let not-18 : th (q .0) .line ≢ 18 = λ l. omega (arith, get (b .link .unlinked) (omega arith)) in
       let seen = get (get (b .link .linked) (omega arith) .seen) (omega arith) in
       (q .0, omega arith)
 
-  -- (c) at 29 with none, whoever is behind stands at 16
+  -- at 29 with none, whoever is behind stands at 16
   pub behind-29-none : (p : ℕ) → th p .line ≡ 29 → th p .succ ≡ 0 → (q : ℕ) → Queued q → th q .slot ≡ th p .slot + 1 → th q .line ≡ 16
   behind-29-none p e none q x h =
       let s = get (i .own p .private .returned) (omega arith) in

@@ -1,6 +1,6 @@
 -- The shape of the queue: what holds of memory and threads after every sequence of events from a fresh lock. docs/INVARIANT.md explains it, clause by clause
--- and with a picture. A thread at 15 or 21, which only looks, is seen at the line it goes on to; so the queue is the threads at 16 to 29, and the
--- lines of it that differ are few: 16 and 17 (nobody before it in the queue as it exchanged), 18 and 19 (somebody before it), and 20 to 29 (inside).
+-- and with a picture. A thread at 15 or 21, which only looks, is seen at the line it goes on to; so the queue is the threads at 16 to 29, and the lines of
+-- it that differ are few: 16 and 17 (it found the tail empty), 18 and 19 (it found the node of the thread before it), and 20 to 29 (inside).
 -- Lines.antt proves that each line keeps the shape, Start.antt that a fresh lock has it, Goes.antt what follows. Assumes nothing.
 use mathlib.Core.List.{List}
 use mathlib.Core.Logic.{_≢_}
@@ -13,7 +13,7 @@ use Rattle.theory.specs.Queue.Nodes.{Nodes}
 use Rattle.theory.specs.Queue.Order.{Order}
 use Rattle.theory.specs.Queue.Places.{Places}
 use Rattle.theory.specs.Queue.Seen.{Seen}
-use Rattle.theory.specs.Shape.Memory.{Memory}
+use Rattle.theory.specs.Queue.Memory.{Memory}
 
 -- ---- one thread
 
@@ -31,7 +31,8 @@ pub record OwnNext (line next : ℕ) : Type 0 where
   pub cleared : At 13 14 line (next ≡ 0)
   pub arrived : At 24 24 line (next ≢ 0)
 
--- of a thread that waits at 19 for its unlocking: it is unlocked exactly at the front, and there the flag is down
+-- of a thread that waits at 19 for its unlocking: it is unlocked exactly at the front, and there the flag is down. (`locked + low ≤ slot`: at the front
+-- locked is 0; `flag + low ≤ slot`: there the flag is 0.)
 pub record Spinning (locked slot low flag : ℕ) : Type 0 where
   pub unlocked : locked ≡ 0 → slot ≡ low
   pub front : locked + low ≤ slot
@@ -39,7 +40,7 @@ pub record Spinning (locked slot low flag : ℕ) : Type 0 where
 
 -- whose turn it is. (`low < slot + flag` says that at the front the flag is up, `low < slot` that the thread is not at the front.)
 pub record Turn (line slot locked low flag : ℕ) : Type 0 where
-  pub shut : At 14 18 line (locked ≡ 1)
+  pub still-locked : At 14 18 line (locked ≡ 1)
   pub for-flag : At 16 16 line (low < slot + flag)
   pub flag-found : At 17 17 line ((slot ≡ low) × (flag ≡ 1))
   pub behind : At 18 18 line (low < slot)
@@ -60,7 +61,7 @@ Own m v = record {
 -- v has still to tell w (line 18): w's next is empty, and w will wait for it
 pub record Unlinked (v w : Seen) (next : ℕ) : Type 0 where
   pub prev : v .prev ≡ w .my
-  pub before : In 16 23 (w .line)
+  pub up-to-23 : In 16 23 (w .line)
   pub unset : next ≡ 0
 
 -- v has told w (line 19): while w owns its node, next is v's node, and what w has seen from 25 on is v's node
@@ -68,31 +69,32 @@ pub record Linked (v w : Seen) (next : ℕ) : Type 0 where
   pub set : At 16 26 (w .line) (next ≡ v .my)
   pub seen : At 25 29 (w .line) (w .nxmy ≡ v .my)
 
--- v found the tail empty (line 16): w had closed it, and has no successor to unlock
-pub record CutOff (w : Seen) : Type 0 where
+-- v found the tail empty (line 16): w had closed it behind itself, and has no successor to unlock
+pub record ClosedBehind (w : Seen) : Type 0 where
   pub closed : In 25 29 (w .line)
   pub none-seen : w .nxmy ≡ 0
 
+-- all that is said of the two, by v's line
 pub record Link (v w : Seen) (next : ℕ) : Type 0 where
   pub unlinked : At 18 18 (v .line) (Unlinked v w next)
   pub linked : At 19 19 (v .line) (Linked v w next)
-  pub cut : At 16 16 (v .line) (CutOff w)
+  pub apart : At 16 16 (v .line) (ClosedBehind w)
 
 -- ---- the last thread v, the tail, and next of v's node
 
 -- the tail is v's node
 pub record Open (v : Seen) (tail next : ℕ) : Type 0 where
   pub mine : tail ≡ v .my
-  pub before : In 16 22 (v .line)
+  pub up-to-22 : In 16 22 (v .line)
   pub unset : next ≡ 0
 
 -- a tail that is not 0 is the last one's node; where it is 0, the last has closed it
 pub record Last (v : Seen) (tail next : ℕ) : Type 0 where
   pub opened : tail ≢ 0 → Open v tail next
-  pub closed : tail ≡ 0 → CutOff v
+  pub closed : tail ≡ 0 → ClosedBehind v
 
 -- ---- the shared numbers; where nobody is in the queue, the flag is up (`low < high + flag`) and the tail 0
-pub record Shared (flag low high tail : ℕ) (locked : ℕ → ℕ) : Type 0 where
+pub record SharedShape (flag low high tail : ℕ) (locked : ℕ → ℕ) : Type 0 where
   pub flag-range : flag ≤ 1
   pub flag-empty : low < high + flag
   pub tail-empty : low ≡ high → tail ≡ 0
@@ -100,13 +102,13 @@ pub record Shared (flag low high tail : ℕ) (locked : ℕ → ℕ) : Type 0 whe
 
 -- ---- the shape
 pub record Shape (m : Memory) (th : ℕ → Seen) : Type 0 where
-  pub shared : Shared (m .flag) (m .low) (m .high) (m .tail) (m .locked)
-  -- the threads at 15 to 29 have the places from low up to high, and those at 12 to 26 own the nodes in use
+  pub shared : SharedShape (m .flag) (m .low) (m .high) (m .tail) (m .locked)
+  -- the threads at 15 to 29 have the places from low to high - 1, and those at 12 to 26 own the nodes in use
   pub places : Places 16 29 th (m .taker) (m .low) (m .high)
   pub nodes : Nodes 12 26 th (m .used) (m .owner)
   pub own : (q : ℕ) → Own m (th q)
   pub links : Links 16 29 Link Last th (m .next) (m .tail) (m .high)
 
--- the order of exchanges and passages: the queue up to the section, and behind it
+-- the order of exchanges and passages: 27 is the section
 abbrev pub Ordered : (ℕ → Seen) → (ℕ → ℕ) → ℕ → ℕ → List ThreadNo → List ThreadNo → Type 0
-Ordered th taker low high exchanged passed = Order 16 27 28 29 th taker low high exchanged passed
+Ordered th taker low high exchanged passed = Order 16 27 29 th taker low high exchanged passed

@@ -31,7 +31,7 @@ module _ (th : ℕ → Seen) (used next locked : ℕ → ℕ)
       };
       next = record { cleared = none q (omega arith); arrived = none q (omega arith) };
       turn = record {
-        shut = none q (omega arith);
+        still-locked = none q (omega arith);
         for-flag = none q (omega arith);
         flag-found = none q (omega arith);
         behind = none q (omega arith);
@@ -43,13 +43,13 @@ module _ (th : ℕ → Seen) (used next locked : ℕ → ℕ)
     links = record { link = λ q r x e. absurd (omega (arith, idle r)); last = λ q x e. absurd (omega (arith, idle q)) };
   }
 
-  -- nobody has exchanged the tail, and nobody has passed
-  pub order-start : Ordered th (λ _. 0) 1 1 [] []
-  order-start = record {
-    size = refl;
-    names = λ k x. absurd (omega arith);
-    first = refl;
-    before = λ q x. absurd (omega (arith, idle q));
-    after = λ q x. absurd (omega (arith, idle q));
-    empty = λ _. refl;
-  }
+-- nobody has exchanged the tail, and nobody has passed
+pub order-start : (th : ℕ → Seen) → ((q : ℕ) → th q .line ≤ 11) → Ordered th (λ _. 0) 1 1 [] []
+order-start th idle = record {
+  size = refl;
+  names = λ k x. absurd (omega arith);
+  first-passed = refl;
+  before = λ q x. absurd (omega (arith, idle q));
+  past = λ q x. absurd (omega (arith, idle q));
+  empty = λ _. refl;
+}

@@ -1,7 +1,7 @@
 -- What a reached state has, in the words of document 01: the statements of demand 3 about a state. Whether an event is accepted is asked of the step's
 -- conditions (`accepted-exactly`, `exactly-when`), none of which is about how the step is made. Rests on Reached, Shape/Goes and the theorems of the
 -- crates `step` and `ask`. Assumes nothing.
-use mathlib.Core.Bool.{Bool, cond, false, true, _||_}
+use mathlib.Core.Bool.{Bool, false, true, true≢false, _||_}
 use mathlib.Core.List.{List, [], _∷_}
 use mathlib.Core.Logic.{_≢_, _⊎_, by-cases, ⊎-elim}
 use mathlib.Core.Path.{_≡_, ap, refl, subst, sym, _∙_}
@@ -10,9 +10,8 @@ use native.Mathlib.Decide.{decLe, ℕ-discrete}
 use native.Mathlib.Omega.{arith}
 use lib.Dec.{T, eqb}
 use borrow.Author.Tests.{eqb-true}
-use Rattle.ask.specs.Ask.{howManyThreads}
 use Rattle.ask.specs.Meaning.{Free}
-use Rattle.ask.specs.Theorems.{count-none, status-exactly}
+use Rattle.ask.specs.Theorems.{status-exactly}
 use Rattle.ask.specs.declared.Asked.{Asked}
 use Rattle.figure.specs.Figure.{high, line, local, low, my, prev, succ}
 use Rattle.lock.specs.Laws.{nth-none}
@@ -20,9 +19,9 @@ use Rattle.lock.specs.State.{threadAt, zeroThread}
 use Rattle.lock.specs.Valid.{Between}
 use Rattle.lock.specs.declared.State.{State}
 use Rattle.lock.specs.declared.Thread.{Thread}
-use Rattle.number.specs.First.{Condition, First}
+use Rattle.number.specs.FirstThat.{first-has}
 use Rattle.number.specs.Numbers.{bottom, thread}
-use Rattle.number.specs.Refused.{done, followedEmpty, noPlaceLeft}
+use Rattle.number.specs.Refused.{done}
 use Rattle.number.specs.Sizes.{lastPlace}
 use Rattle.number.specs.declared.NodeNo.{NodeNo}
 use Rattle.number.specs.declared.Place.{Place}
@@ -32,16 +31,16 @@ use Rattle.step.specs.Conditions.Follows.{my-at, prev-at, succ-at}
 use Rattle.step.specs.Conditions.Waits.{at16, at19, at23}
 use Rattle.step.specs.Step.{step}
 use Rattle.step.specs.Theorems.{accepted-exactly, exactly-when}
-use Rattle.theory.specs.Demands.{Busy, EnteredCount, FreeExactly, OneInside, SomeCanStep}
+use Rattle.theory.specs.Demands.{Busy, EnteredCount, FreeExactly, Is9To11, OneInside, SomeCanStep}
 use Rattle.theory.specs.Proof.Look.{seen-at, seen-off, seen-within, threadsOf}
 use Rattle.theory.specs.Proof.Reached.{Reached}
-use Rattle.theory.specs.Proof.Stored.{memoryOf}
+use Rattle.theory.specs.Queue.Stored.{memoryOf}
 use Rattle.theory.specs.Queue.AtLines.{In}
-use Rattle.theory.specs.Queue.Counts.{isAt}
+use Rattle.theory.specs.Queue.Counts.{exchange-room, leave-room}
 use Rattle.theory.specs.Queue.Seen.{Seen}
 use Rattle.theory.specs.Queue.View.{is-used, lockedIn, nextIn, threadsIn}
 use Rattle.theory.specs.Shape.Goes.{Able, Used, empty-free, free-empty, my-used, one-inside as one-is-inside, prev-used, progress, succ-used}
-use Rattle.theory.specs.Shape.Memory.{Memory}
+use Rattle.theory.specs.Queue.Memory.{Memory}
 use Rattle.theory.specs.Shape.Shape.{Shape}
 use Rattle.word.specs.Word.{inUse}
 
@@ -64,18 +63,6 @@ of-among P l (j ∷ js) all h = go (eqb l j) refl h (of-among P l js (all .1))
     go : (b : Bool) → eqb l j ≡ b → T (b || among l js) → (T (among l js) → P l) → P l
     go true e h later = subst P (sym (eqb-true l j e)) (all .0)
     go false e h later = later h
-
--- ---- the first condition that applies
-
--- m is none of the numbers of the conditions that apply
-abbrev pub NoneGives : List Condition → ℕ → Type 0
-NoneGives [] m = Unit {0}
-NoneGives (c ∷ cs) m = (c .applies → m ≢ c .number) × NoneGives cs m
-
--- so it is 0
-pub none-gives : (cs : List Condition) (m : ℕ) → First cs m → NoneGives cs m → m ≡ done
-none-gives [] m h n = h
-none-gives (c ∷ cs) m h n = ⊎-elim (λ a. absurd (n .0 (a .0) (a .1))) (λ b. none-gives cs m (b .1) (n .1)) h
 
 module _ {s : State} {exchanged passed : List ThreadNo} (r : Reached s exchanged passed) where
   abbrev m : Memory
@@ -122,23 +109,12 @@ module _ {s : State} {exchanged passed : List ThreadNo} (r : Reached s exchanged
         (λ past. absurd (omega (arith, ap (λ (v : Thread). v .line) (r .valid .past-threads t (omega arith)))));
   }
 
-  -- some thread is at a line of a to b, so some are counted
-  counted : (a b : ℕ) (t : ThreadNo) → Between 1 (t .0) (s .shared .threads) → isAt a b (threadAt s t) ≡ true → 1 ≤ howManyThreads (isAt a b) s
-  counted a b t exists h =
-      by-cases (ℕ-discrete (howManyThreads (isAt a b) s) 0)
-      (λ none.
-      let wrong : _≡_ {A = ℕ} 1 0 = ap (λ (x : Bool). cond x 1 0) (sym h ∙ count-none (isAt a b) s .0 none t exists) in
-      omega arith)
-      (λ some. omega arith)
-
-  -- entered has counted every place, so no place is the last
+  -- entered has counted every place, so high at 14 and low at 29 are below 1,000,001
   pub room : (t : ThreadNo) → ((line s t ≡ 14) × (high s .0 ≡ lastPlace)) ⊎ ((line s t ≡ 29) × (low s .0 ≡ lastPlace)) → ⊥
   room t =
       ⊎-elim
-      (λ h. omega (arith, counted 12 14 t (somebody t (omega arith)) (rw (h .0)), r .counts .entries, r .valid .shared .entered))
-      (λ h.
-      let x = seen-at (r .base) s t 29 (h .0) in
-      omega (arith, shape .places .place (t .0) (omega arith), r .counts .entries, r .valid .shared .entered))
+      (λ h. omega (arith, exchange-room (r .counts) t (somebody t (omega arith)) (rw (h .0)), r .valid .shared .entered))
+      (λ h. omega (arith, leave-room (r .counts) t (somebody t (omega arith)) (rw (h .0)), r .valid .shared .entered))
 
   -- ---- 9, 10 and 11 never occur: their conditions never apply
 
@@ -146,27 +122,26 @@ module _ {s : State} {exchanged passed : List ThreadNo} (r : Reached s exchanged
   followed-some t (k, f, z) = followed-used t k f .0 z
 
   followed-in-use : (t : ThreadNo) → (k : NodeNo) × Follows (threadAt s t) k × (inUse (local s) k ≡ false) → ⊥
-  followed-in-use t (k, f, z) =
-      let wrong : _≡_ {A = ℕ} 1 0 = ap (λ (x : Bool). cond x 1 0) (sym (followed-used t k f .1) ∙ z) in
-      omega arith
+  followed-in-use t (k, f, z) = true≢false (sym (followed-used t k f .1) ∙ z)
 
-  pub never : (t : ThreadNo) (n : NodeNo) → ¬ Between followedEmpty (step s t n .answer) noPlaceLeft
-  never t n h =
-      let accepted : step s t n .answer ≡ done =
-      none-gives (conditions s t n) (step s t n .answer) (exactly-when s t n (r .valid .sized) (step s t n .answer) .0 refl) (
-        (λ a e. omega arith),
+  pub never : (t : ThreadNo) (n : NodeNo) → ¬ Is9To11 (step s t n .answer)
+  never t n =
+      first-has (λ (m : ℕ). ¬ Is9To11 m) (conditions s t n) (step s t n .answer) (
+        (λ a h. omega arith),
         (
-          (λ a e. omega arith),
+          (λ a h. omega arith),
           (
-            (λ a e. omega arith),
+            (λ a h. omega arith),
             (
-              (λ a e. omega arith),
-              ((λ a e. omega arith), ((λ a e. followed-some t a), ((λ a e. followed-in-use t a), ((λ a e. room t a), ((λ a e. omega arith), tt))))),
+              (λ a h. omega arith),
+              (
+                (λ a h. omega arith),
+                ((λ a h. followed-some t a), ((λ a h. followed-in-use t a), ((λ a h. room t a), ((λ a h. omega arith), λ h. omega arith)))),
+              ),
             ),
           ),
         ),
-      ) in
-      omega arith
+      ) (exactly-when s t n (r .valid .sized) (step s t n .answer) .0 refl)
 
   -- ---- If some thread has left its idle line, some such thread can step.
 

@@ -1,5 +1,5 @@
--- What the threads of the lock MCSHLi share, as the theory sees it: plain numbers, and functions of a node's number. Two things are no part of a state and are
--- noted beside it: `owner`, who chose a node last, and `taker`, who took a place. Low and high are counted over the whole history. Assumes nothing.
+-- What threads share, as the theory sees it: plain numbers, and functions of a node's number. Two things are no part of a state and are noted beside it:
+-- `owner`, who chose a node last, and `taker`, who took a place. Low and high are counted over the whole history. Assumes nothing.
 use Prim.Native.Nat.{ℕ}
 
 infixl 60 _⟦flag≔_⟧
