@@ -70,6 +70,6 @@ module _ {a b c : ℕ} {s : State} (h : Counts a b c s) (t : ThreadNo) (exists :
   pub exchange-room : isAt a b (threadAt s t) ≡ true → high s .0 ≤ entered s
   exchange-room early = omega (arith, h .entries, counts-it (isAt a b) early)
 
-  -- and no thread in the queue has left, so low is below high, which is at most one more than entered
+  -- while a thread is in the queue low is below high, and high is at most entered + 1
   pub leave-room : isAt (suc b) c (threadAt s t) ≡ true → low s .0 ≤ entered s
   leave-room queued = omega (arith, h .entries, h .places, counts-it (isAt (suc b) c) queued)

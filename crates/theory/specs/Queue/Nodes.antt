@@ -19,7 +19,7 @@ pub record HasNode (q k bit chooser : ℕ) : Type 0 where
 pub record Nodes (first last : ℕ) (th : ℕ → Seen) (used owner : ℕ → ℕ) : Type 0 where
   -- a thread at these lines owns a node, and chose it
   pub node : (q : ℕ) → In first last (th q .line) → HasNode q (th q .my) (used (th q .my)) (owner (th q .my))
-  -- who chose a node that is in use is at these lines, and owns it still
+  -- who chose a node that is in use is at these lines, and owns it still: so no node stays in use that nobody will give up
   pub owned : (k q : ℕ) → owner k ≡ q → used k ≡ 1 → In first last (th q .line) × (th q .my ≡ k)
 
 module _ {first last : ℕ} {th : ℕ → Seen} {used owner : ℕ → ℕ} (u : Nodes first last th used owner) where

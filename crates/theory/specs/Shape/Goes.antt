@@ -59,7 +59,7 @@ module _ {m : Memory} {th : ℕ → Seen} (i : Shape m th) where
       able linked = record {
         off = omega arith;
         flag = λ l. omega (arith, get (i .own p .turn .for-flag) (omega arith), i .shared .flag-range);
-        unlocked = λ l. omega (arith, get (i .own p .turn .spinning) (omega arith) .front);
+        unlocked = λ l. omega (arith, get (i .own p .turn .spinning) (omega arith) .front-unlocked);
         linked = linked;
       }
 

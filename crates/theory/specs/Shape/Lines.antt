@@ -5,7 +5,7 @@
 -- on who stands where (Neighbours); `far` says of the other threads that they are not reached. Assumes nothing.
 use mathlib.Core.Bool.{cond}
 use mathlib.Core.Logic.{_≢_}
-use mathlib.Core.Path.{_≡_, refl}
+use mathlib.Core.Path.{_≡_, ap, refl, _∙_}
 use Prim.Native.Nat.{ℕ, _+_, _≤_}
 use native.Mathlib.Omega.{arith}
 use lib.Dec.{eqb}
@@ -17,7 +17,7 @@ use Rattle.theory.specs.Queue.Places.{at-place, behind-front, one-place,
 use Rattle.theory.specs.Queue.Seen.{Seen, at-line, _⟦line≔_⟧, _⟦my≔_⟧, _⟦nxmy≔_⟧, _⟦prev≔_⟧, _⟦slot≔_⟧, _⟦succ≔_⟧}
 use Rattle.theory.specs.Queue.Memory.{Memory, _⟦flag≔_⟧, _⟦high≔_⟧, _⟦locked≔_⟧, _⟦low≔_⟧, _⟦mess≔_⟧}
 use Rattle.theory.specs.Queue.Memory.{_⟦next≔_⟧, _⟦owner≔_⟧, _⟦tail≔_⟧, _⟦taker≔_⟧, _⟦used≔_⟧}
-use Rattle.theory.specs.Shape.Moves.{Moves, by-test, each, facts, goes-on, here, last-moves, link-moves, locked-apart, moves, next-apart}
+use Rattle.theory.specs.Shape.Moves.{Moves, by-test, each, facts, goes-on, here, last-moves, link-moves, locked-apart, moves}
 use Rattle.theory.specs.Shape.Moves.{readies, turn-behind}
 use Rattle.theory.specs.Shape.Neighbours.{before-18, behind-29, behind-29-none, front-16, tail-last}
 use Rattle.theory.specs.Shape.Shape.{Last, Link, Own, Shape, SharedShape, Turn}
@@ -57,7 +57,8 @@ module _ {m : Memory} {th : ℕ → Seen} (i : Shape m th) (p : ℕ) where
 
   -- 14  prev := tail; tail := my; slot := high; high++
   -- 15  if prev = ⊥ then (16) else (18)
-  -- p is the last then. Who was the last has closed the tail, and p is cut off from it (16); or the tail was its node, which p has still to tell (18).
+  -- p is the last then. If the tail was 0, nobody was in the queue, or who was the last has closed it: p waits for the flag (16). If not, the tail was the
+  -- node of who was the last, and p has still to tell it (18).
   pub keeps14 : th p .line ≡ 14
       → Shape (m ⟦tail≔ th p .my ⟧ ⟦high≔ m .high + 1 ⟧ ⟦taker≔ upd (m .taker) (m .high) p ⟧)
       (upd th p (th p ⟦prev≔ m .tail ⟧ ⟦slot≔ m .high ⟧ ⟦line≔ cond (eqb (m .tail) 0) 16 18 ⟧))
@@ -110,7 +111,7 @@ module _ {m : Memory} {th : ℕ → Seen} (i : Shape m th) (p : ℕ) where
       (λ q d.
       let x = i .own q in
       let turn = turn-behind (far q d) (far q d) (i .shared .locked-range (th q .my)) (omega arith) (x .turn) in
-      record { private = x .private; next = x .next; turn = turn; mess = x .mess })
+      record { private = x .private; cleared = x .cleared; turn = turn; mess = x .mess })
 
   -- 18  next(prev) := my
   -- The thread before p, whose node prev is, knows of p then; nobody else's next changes.
@@ -131,8 +132,9 @@ module _ {m : Memory} {th : ℕ → Seen} (i : Shape m th) (p : ℕ) where
         own = each i p (m ⟦next≔ upd (m .next) (th p .prev) (th p .my) ⟧) w (omega arith)
             (λ q d.
             let x = i .own q in
-            let next = next-apart (λ owner n. far q (λ same. n (rw same (unlinked .up-to-23))) owner) (x .next) in
-            record { private = x .private; next = next; turn = x .turn; mess = x .mess });
+            let other : In 13 14 (th q .line) → q ≢ r = λ y same. omega (arith, ap (λ k. th k .line) same, unlinked .up-to-23) in
+            let cleared = map (λ y z. far q (other y) (omega arith) ∙ z) (x .cleared) in
+            record { private = x .private; cleared = cleared; turn = x .turn; mess = x .mess });
         links =
             links-tell facts (i .places) (i .nodes) (i .links) p 19 r (omega arith) (omega arith) (omega arith) (omega arith) behind (unlinked .prev)
             (record { unlinked = omega arith; linked = put λ _. record { set = put λ x. refl; seen = put λ x. omega arith }; apart = omega arith })
@@ -210,7 +212,7 @@ module _ {m : Memory} {th : ℕ → Seen} (i : Shape m th) (p : ℕ) where
       (λ q d.
       let x = i .own q in
       let mess = map (λ a y. absurd (omega (arith, far q d (omega arith), get (x .turn .inside) (omega arith)))) (x .mess) in
-      record { private = x .private; next = x .next; turn = x .turn; mess = mess })
+      record { private = x .private; cleared = x .cleared; turn = x .turn; mess = mess })
 
   -- 26  succ := ⊥; remove my from local
   -- The node was p's alone, and what p has seen in it is in mess.
@@ -251,7 +253,7 @@ module _ {m : Memory} {th : ℕ → Seen} (i : Shape m th) (p : ℕ) where
             let range = i .shared .locked-range (th q .my) in
             let turn = at-place (i .places) q (th p .slot + 1) (front q) (λ n.
             locked-apart (far q n) (turn-behind (behind q d) (λ y. omega (arith, behind q d y, n y)) range (shared .flag-range) (x .turn))) in
-            record { private = x .private; next = x .next; turn = turn; mess = x .mess });
+            record { private = x .private; cleared = x .cleared; turn = turn; mess = x .mess });
         links = links-out th p w (i .links) (omega arith) (λ u n. omega arith) (λ r d q l. l) (λ r d l. l);
       }
 

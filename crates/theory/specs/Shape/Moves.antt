@@ -3,7 +3,7 @@
 -- it goes on in the queue (`goes-on`, and `moves` where memory stays as it is). Lines.antt adds what each line has of its own. Assumes nothing.
 use mathlib.Core.Bool.{cond}
 use mathlib.Core.Logic.{_≢_, _↔_}
-use mathlib.Core.Path.{_≡_, refl}
+use mathlib.Core.Path.{_≡_, refl, _∙_}
 use Prim.Native.Nat.{ℕ, _+_, _≤_, _<_}
 use native.Mathlib.Decide.{ℕ-discrete}
 use native.Mathlib.Omega.{arith}
@@ -16,7 +16,7 @@ use Rattle.theory.specs.Queue.Nodes.{HasNode, Nodes, nodes-stay}
 use Rattle.theory.specs.Queue.Places.{HasPlace, places-stay}
 use Rattle.theory.specs.Queue.Seen.{Seen, at-line, _⟦line≔_⟧, _⟦my≔_⟧, _⟦nxmy≔_⟧, _⟦succ≔_⟧}
 use Rattle.theory.specs.Queue.Memory.{Memory, _⟦flag≔_⟧, _⟦locked≔_⟧, _⟦mess≔_⟧, _⟦next≔_⟧, _⟦owner≔_⟧, _⟦used≔_⟧}
-use Rattle.theory.specs.Shape.Shape.{ClosedBehind, Last, Link, Linked, Open, Own, OwnNext, Shape, Turn, Unlinked}
+use Rattle.theory.specs.Shape.Shape.{ClosedBehind, Last, Link, Linked, Open, Own, Shape, Turn, Unlinked}
 
 -- ---- where what is said of a thread does not change
 
@@ -34,13 +34,6 @@ facts = record {
     apart = l .apart;
   };
   last-next = λ v t n n′ same l. record { opened = λ z. let o = l .opened z in omega (arith, same (omega arith)); closed = l .closed };
-}
-
--- next of its node matters only to a thread that owns one, and not while it is at 16 to 23
-pub next-apart : {line next next′ : ℕ} → (In 12 26 line → ¬ In 16 23 line → next′ ≡ next) → OwnNext line next → OwnNext line next′
-next-apart same x = record {
-  cleared = map (λ y z. omega (arith, same (omega arith) (λ h. omega arith))) (x .cleared);
-  arrived = map (λ y z. omega (arith, same (omega arith) (λ h. omega arith))) (x .arrived);
 }
 
 -- locked of its node matters only to a thread that owns one
@@ -66,7 +59,7 @@ turn-behind was still k f x = record {
   spinning = map (λ y z.
       let w = was (omega arith) in
       let s = still (omega arith) in
-      record { unlocked = λ e. absurd (omega (arith, z .unlocked e)); front = omega arith; flag-down = omega arith }) (x .spinning);
+      record { unlocked = λ e. absurd (omega (arith, z .unlocked e)); front-unlocked = omega arith; flag-down = omega arith }) (x .spinning);
   inside = map (λ y z. absurd (omega (arith, was (omega arith)))) (x .inside);
 }
 
@@ -152,7 +145,7 @@ module _ {m : Memory} {th : ℕ → Seen} (i : Shape m th) (p : ℕ) where
             let x = i .own q in
             record {
               private = x .private;
-              next = next-apart (λ y _. next-same q d y) (x .next);
+              cleared = map (λ y z. next-same q d (omega arith) ∙ z) (x .cleared);
               turn = locked-apart (locked-same q d) (x .turn);
               mess = x .mess;
             });

@@ -1,6 +1,7 @@
 -- The shape of the queue: what holds of memory and threads after every sequence of events from a fresh lock. docs/INVARIANT.md explains it, clause by clause
 -- and with a picture. A thread at 15 or 21, which only looks, is seen at the line it goes on to; so the queue is the threads at 16 to 29, and the lines of
--- it that differ are few: 16 and 17 (it found the tail empty), 18 and 19 (it found the node of the thread before it), and 20 to 29 (inside).
+-- it that differ are few: 16 and 17 (it found the tail empty), 18 and 19 (it found the node of the thread before it), and 20 to 29 (inside: it has the
+-- lock; the section is 27).
 -- Lines.antt proves that each line keeps the shape, Start.antt that a fresh lock has it, Goes.antt what follows. Assumes nothing.
 use mathlib.Core.List.{List}
 use mathlib.Core.Logic.{_≢_}
@@ -20,22 +21,17 @@ use Rattle.theory.specs.Queue.Memory.{Memory}
 -- what its own variables say
 pub record Private (v : Seen) : Type 0 where
   pub line-range : v .line ≤ 29
-  -- succ is the successor that the thread has seen: from 20 on, and again when mess has given it back
+  -- succ is the successor that the thread has seen: behind 20 until it is sent away, and again when mess has given it back
   pub copied : At 22 26 (v .line) (v .succ ≡ v .nxmy)
   pub returned : At 29 29 (v .line) (v .succ ≡ v .nxmy)
   -- at 22 to 24 it has seen none yet
   pub none-seen : At 22 24 (v .line) (v .nxmy ≡ 0)
 
--- what its line says of next of its own node
-pub record OwnNext (line next : ℕ) : Type 0 where
-  pub cleared : At 13 14 line (next ≡ 0)
-  pub arrived : At 24 24 line (next ≢ 0)
-
 -- of a thread that waits at 19 for its unlocking: it is unlocked exactly at the front, and there the flag is down. (`locked + low ≤ slot`: at the front
 -- locked is 0; `flag + low ≤ slot`: there the flag is 0.)
 pub record Spinning (locked slot low flag : ℕ) : Type 0 where
   pub unlocked : locked ≡ 0 → slot ≡ low
-  pub front : locked + low ≤ slot
+  pub front-unlocked : locked + low ≤ slot
   pub flag-down : flag + low ≤ slot
 
 -- whose turn it is. (`low < slot + flag` says that at the front the flag is up, `low < slot` that the thread is not at the front.)
@@ -47,11 +43,11 @@ pub record Turn (line slot locked low flag : ℕ) : Type 0 where
   pub spinning : At 19 19 line (Spinning locked slot low flag)
   pub inside : At 20 29 line ((slot ≡ low) × (flag ≡ 0))
 
--- all that is said of one thread; mess holds what the thread inside has sent itself
+-- all that is said of one thread: before its exchange next of its node is empty, and mess holds what the thread inside has sent itself
 abbrev pub Own : Memory → Seen → Type 0
 Own m v = record {
   private : Private v;
-  next : OwnNext (v .line) (m .next (v .my));
+  cleared : At 13 14 (v .line) (m .next (v .my) ≡ 0);
   turn : Turn (v .line) (v .slot) (m .locked (v .my)) (m .low) (m .flag);
   mess : At 26 28 (v .line) (m .mess ≡ v .nxmy);
 }
@@ -103,7 +99,7 @@ pub record SharedShape (flag low high tail : ℕ) (locked : ℕ → ℕ) : Type 
 -- ---- the shape
 pub record Shape (m : Memory) (th : ℕ → Seen) : Type 0 where
   pub shared : SharedShape (m .flag) (m .low) (m .high) (m .tail) (m .locked)
-  -- the threads at 15 to 29 have the places from low to high - 1, and those at 12 to 26 own the nodes in use
+  -- the threads in the queue have the places from low to high - 1, and those that have chosen a node and not yet given it up own the nodes in use
   pub places : Places 16 29 th (m .taker) (m .low) (m .high)
   pub nodes : Nodes 12 26 th (m .used) (m .owner)
   pub own : (q : ℕ) → Own m (th q)

@@ -29,7 +29,7 @@ module _ (th : ℕ → Seen) (used next locked : ℕ → ℕ)
         returned = none q (omega arith);
         none-seen = none q (omega arith);
       };
-      next = record { cleared = none q (omega arith); arrived = none q (omega arith) };
+      cleared = none q (omega arith);
       turn = record {
         still-locked = none q (omega arith);
         for-flag = none q (omega arith);
