@@ -22,13 +22,14 @@
  *     'S' 'H'  T  K                                                                         4 bytes, once
  *     'S' 'E'  thread  node                                                                 4 bytes for each event
  *
- * On runs from a fresh state, refused events counting as not done, never two threads are at the critical section (line 27), threads
- * pass through it in the order in which they exchanged the tail (line 14), some thread off line 11 can step if there is one, and
- * refusals 9, 10 and 11 never occur. This is proved of the same steps.
- *
  * An event executes one line of one thread. Its node is the one that the thread takes where the thread is at line 11, and is 0 at
  * every other line. A line follows a node where it reads or writes its record: my at 12, 13, 19, 20, 23, 24 and 26, prev at 18, and
  * succ at 29 where it is not 0.
+ *
+ * Start from sedge_fresh and change the state by sedge_step and sedge_run alone, with any events; a refused event changes nothing. Then
+ * never two threads are at the critical section (line 27); threads pass through it in the order in which they stored their node in
+ * the tail (line 14); if some thread is off line 11, some such thread can step; and refusals 9, 10 and 11 never occur. This is proved
+ * of the step that both calls make.
  *
  * Rules for every call:
  *   - A buffer is a pointer and then its length in bytes. No pointer may be NULL, not even where the length is 0.

@@ -1,7 +1,7 @@
 -- Demand 3, as statements about any tool that is offered as a step: what every run from a fresh lock has. Read this file first: every statement stands here,
 -- under the sentence that asks for it. (Words in quotes are demand 3's own, docs/PROMISES.md, and document 01's.) Theorems.antt proves all of it of our step
--- and of the run. Broken.antt has four machines, each with one line spoilt; of each, one of these statements is false. They speak of the state, the events
--- and the tool's answers alone: what the proof says of the queue besides is in Shape. Assumes nothing.
+-- and of the run. Broken.antt has four machines, each with one line spoilt; of each, one of these statements is false. The statements speak of states,
+-- events, the tool's answers, the figure's steps and the run alone; what the proof says of the queue besides is in Shape. Assumes nothing.
 use mathlib.Core.Bool.{Bool, cond, true, _&&_}
 use mathlib.Core.List.{List, [], _∷_, _++_}
 use mathlib.Core.Logic.{_≢_, _↔_}
@@ -47,7 +47,7 @@ isEarly v = leb 12 (v .line) && leb (v .line) 14
 
 -- ---- a state
 
--- "Never do two threads stand at the critical section."
+-- "Never do two threads stand at the critical section." (Inside is line 27 here. Of all lines 20 to 29 the same is proved: Shape/Goes.)
 abbrev pub OneInside : State → Type 0
 OneInside s = (t u : ThreadNo) → line s t ≡ sectionLine → line s u ≡ sectionLine → t ≡ u
 
@@ -132,7 +132,7 @@ module _ (tool : Tool) where
   abbrev pub Never9To11 : State → List Event → Type 0
   Never9To11 s es = (i : ℕ) → ¬ Is9To11 (getD (answers tool s es) i done)
 
-  -- all of it, of events es that lead from state s to state s′
+  -- all of it, of events es that lead from state s to state s′ (`NthPassage` is no field: it follows from `passages-prefix`)
   pub record Holds (s : State) (es : List Event) (s′ : State) : Type 0 where
     pub leads : after tool s es ≡ s′
     pub one-inside : OneInside s′
@@ -144,7 +144,7 @@ module _ (tool : Tool) where
     pub free-exactly : FreeExactly s′
     pub valid : Valid s′
 
--- ---- "Start from a fresh lock": for every T and K from 1 to 32
+-- ---- "Start from a fresh lock": for every T and K from 1 to 32, from the state that `fresh` gives for them (`fresh-accepted`)
 abbrev pub FromFresh : (State → Type 0) → Type 0
 FromFresh P = (T K : ℕ) → Between 1 T mostThreads → Between 1 K mostNodes → P (freshState T K)
 
@@ -168,7 +168,7 @@ module _ (tool : Tool) where
   DoneAreFigure = FromFresh (λ s. (es : List Event) → FigureSteps s (doneOf s es) (after tool s es))
 
   -- "take every sequence of events": any thread and node numbers whatever. The first two fields are there because "Demand 3 speaks of the figure's steps,
-  -- so a tool that never moves can't earn it": the last alone it would have for nothing.
+  -- so a tool that never moves can't earn it": such a tool has `holds` without doing anything.
   pub record Demand3 : Type 0 where
     pub takes-figure : TakesFigure
     pub done-are-figure : DoneAreFigure

@@ -1,6 +1,6 @@
 -- A sequence of Figure 1's steps, by themselves: no tool is asked here. Each event names a thread 1 to T, and a node 1 to K at line 11 and none elsewhere,
--- while entries remain; the rest is the figure's. (Demand 2 asks for a step of the figure to be accepted only where, besides, followed nodes are in use and
--- places remain. From a fresh lock that is always so, and is not asked here.) Assumes nothing.
+-- while entries remain; the rest is the figure's. (Demand 2 has two conditions more, that followed nodes are in use and that places remain. They are not
+-- asked here: from a fresh lock they always hold, as `takes-figure` shows.) Assumes nothing.
 use mathlib.Core.List.{List, [], _∷_}
 use mathlib.Core.Logic.{_≢_}
 use mathlib.Core.Path.{_≡_}
