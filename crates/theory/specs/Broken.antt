@@ -220,8 +220,8 @@ unfoldable pub readsNextAgain : Tool
 unfolding spoilt
 readsNextAgain = spoilt 29 (λ s t. handOn (next s (my s t)) s t)
 
--- T = 3, K = 2: with two threads the shortcut shows nothing. Thread 1 has no successor, and releases node 1 before the critical section. Thread 2 takes
--- node 1 and goes to wait for the flag; thread 3 queues up behind it, and next of node 1 is now thread 3's node. Thread 1 reads it at 29 and unlocks
+-- T = 3, K = 2 (two threads do not show it: docs/DECISIONS.md, D9). Thread 1 has no successor, and releases node 1 before the critical section. Thread 2
+-- takes node 1 and goes to wait for the flag; thread 3 queues up behind it, and next of node 1 is now thread 3's node. Thread 1 reads it at 29 and unlocks
 -- thread 3, which passes ahead of thread 2.
 abbrev pub nodeServesAnother : List Event
 nodeServesAnother =
