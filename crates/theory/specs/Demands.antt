@@ -47,9 +47,13 @@ isEarly v = leb 12 (v .line) && leb (v .line) 14
 
 -- ---- a state
 
--- "Never do two threads stand at the critical section." (Inside is line 27 here. Of all lines 20 to 29 the same is proved: Shape/Goes.)
+-- "Never do two threads stand at the critical section."
 abbrev pub OneInside : State → Type 0
 OneInside s = (t u : ThreadNo) → line s t ≡ sectionLine → line s u ≡ sectionLine → t ≡ u
+
+-- More than is demanded: never do two threads hold the lock, which is "at 20 to 29".
+abbrev pub OneHolds : State → Type 0
+OneHolds s = (t u : ThreadNo) → Between 20 (line s t) 29 → Between 20 (line s u) 29 → t ≡ u
 
 -- "entered = high - 1 + the number of threads at lines 12 to 14"
 abbrev pub EnteredCount : State → Type 0
@@ -132,7 +136,8 @@ module _ (tool : Tool) where
   abbrev pub Never9To11 : State → List Event → Type 0
   Never9To11 s es = (i : ℕ) → ¬ Is9To11 (getD (answers tool s es) i done)
 
-  -- all of it, of events es that lead from state s to state s′ (`NthPassage` is no field: it follows from `passages-prefix`)
+  -- all of it, of events es that lead from state s to state s′ (`NthPassage` is no field: it follows from `passages-prefix`;
+  -- nor is `OneHolds`, which is not demanded)
   pub record Holds (s : State) (es : List Event) (s′ : State) : Type 0 where
     pub leads : after tool s es ≡ s′
     pub one-inside : OneInside s′

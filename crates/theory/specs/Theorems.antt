@@ -9,7 +9,7 @@ use Rattle.lock.specs.Fresh.{freshState}
 use Rattle.lock.specs.Valid.{Valid}
 use Rattle.lock.specs.declared.State.{State}
 use Rattle.step.specs.Step.{step}
-use Rattle.theory.specs.Demands.{Demand3, DoneAreFigure, EnteredCount, FreeExactly, FromFresh, Holds, Never9To11, NthPassage, OneInside}
+use Rattle.theory.specs.Demands.{Demand3, DoneAreFigure, EnteredCount, FreeExactly, FromFresh, Holds, Never9To11, NthPassage, OneHolds, OneInside}
 use Rattle.theory.specs.Demands.{PassagesPrefix, PassesOnce, RunHolds, SomeCanStep, TakesFigure, eventsTaken}
 use Rattle.theory.specs.FigureSteps.{FigureSteps}
 use Rattle.theory.specs.Proof.Passages
@@ -23,6 +23,10 @@ use Rattle.theory.specs.Proof.Taken
 -- Never do two threads stand at the critical section.
 pub one-inside : FromFresh (λ s. (es : List Event) → OneInside (after step s es))
 one-inside T K threads nodes es = States.one-inside (fresh-reached T K threads nodes es)
+
+-- More than is demanded: never do two threads hold the lock, at lines 20 to 29.
+pub one-holds : FromFresh (λ s. (es : List Event) → OneHolds (after step s es))
+one-holds T K threads nodes es = States.one-holds (fresh-reached T K threads nodes es)
 
 -- The threads that passed are the first of those that exchanged the tail, in their order ..
 pub passages-prefix : FromFresh (λ s. (es : List Event) → PassagesPrefix step s es)

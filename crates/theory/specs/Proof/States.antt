@@ -31,7 +31,7 @@ use Rattle.step.specs.Conditions.Follows.{my-at, prev-at, succ-at}
 use Rattle.step.specs.Conditions.Waits.{at16, at19, at23}
 use Rattle.step.specs.Step.{step}
 use Rattle.step.specs.Theorems.{accepted-exactly, exactly-when}
-use Rattle.theory.specs.Demands.{Busy, EnteredCount, FreeExactly, Is9To11, OneInside, SomeCanStep}
+use Rattle.theory.specs.Demands.{Busy, EnteredCount, FreeExactly, Is9To11, OneHolds, OneInside, SomeCanStep}
 use Rattle.theory.specs.Proof.Look.{seen-at, seen-off, seen-within, threadsOf}
 use Rattle.theory.specs.Proof.Reached.{Reached}
 use Rattle.theory.specs.Queue.Stored.{memoryOf}
@@ -74,12 +74,16 @@ module _ {s : State} {exchanged passed : List ThreadNo} (r : Reached s exchanged
   shape : Shape m th
   shape = r .kept .0
 
-  -- Never do two threads stand at the critical section.
+  -- Never do two threads hold the lock ..
+  pub one-holds : OneHolds s
+  one-holds t u a b =
+      let x = seen-within (r .base) s t 20 29 (λ _. omega arith) (λ _. omega arith) (a .from, a .to) in
+      let y = seen-within (r .base) s u 20 29 (λ _. omega arith) (λ _. omega arith) (b .from, b .to) in
+      same-thread (one-is-inside shape (t .0) (u .0) x y)
+
+  -- .. so never do two stand at the critical section.
   pub one-inside : OneInside s
-  one-inside t u a b =
-      let x = seen-at (r .base) s t 27 a in
-      let y = seen-at (r .base) s u 27 b in
-      same-thread (one-is-inside shape (t .0) (u .0) (omega arith) (omega arith))
+  one-inside t u a b = one-holds t u (omega arith) (omega arith)
 
   -- ---- the nodes that a line follows
 
