@@ -67,7 +67,7 @@ pub count-stored : (test : Thread → Bool) (s : State) (t : ThreadNo) (v : Thre
     → howManyThreads test (s ⟨thread t ≔ v ⟩) + cond (test (threadAt s t)) 1 0 ≡ howManyThreads test s + cond (test v) 1 0
 count-stored = Count.count-stored
 
--- Counting looks at the threads alone.
+-- Counting looks at T and the threads alone.
 pub count-alike : (test : Thread → Bool) (s s′ : State) → s′ .thread ≡ s .thread → s′ .shared .threads ≡ s .shared .threads
     → howManyThreads test s′ ≡ howManyThreads test s
 count-alike = Count.count-alike

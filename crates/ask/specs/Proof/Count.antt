@@ -55,7 +55,7 @@ same-count zero test test′ s s′ h = refl
 same-count (suc t) test test′ s s′ h =
     rw (same-count t test test′ s s′ (λ u b. h u (wider b)), h (thread (suc t)) (is-last t))
 
--- States with the same threads count as many.
+-- States with the same T and the same threads count as many.
 pub count-alike : (test : Thread → Bool) (s s′ : State) → s′ .thread ≡ s .thread → s′ .shared .threads ≡ s .shared .threads
     → howManyThreads test s′ ≡ howManyThreads test s
 count-alike test s s′ same-threads same-size =
