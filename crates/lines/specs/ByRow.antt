@@ -9,8 +9,7 @@ use native.Mathlib.Omega.{arith}
 use lib.Dec.{T}
 use lib.ListN.{getD, length}
 use borrow.Author.Tests.{le-ltb}
-use Rattle.lines.specs.Lines.{lineAt, lines, offTable}
-use Rattle.lines.specs.declared.Line.{Line}
+use Rattle.lines.specs.Lines.{Line, lineAt, lines, offTable}
 
 -- a test of each row and its line number, over rows from line l on
 abbrev pub allFrom : (ℕ → Line → Bool) → ℕ → List Line → Bool

@@ -1,4 +1,3 @@
--- The table of the nineteen lines, and the window that a line works on.
+-- The table of the nineteen lines.
 pub mod Lines
-pub mod Table
 pub mod ByRow

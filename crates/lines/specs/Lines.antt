@@ -1,29 +1,51 @@
 -- Document 01, "The nineteen lines": "A constant table of the nineteen lines gives each one's followed node, its wait and its follow-on lines."
--- Each row stands under document 01's own. What the acts named here do is in Acts (crate `acts`). Assumes nothing.
-use mathlib.Core.Bool.{Bool, cond, true}
+-- Each line stands under document 01's own row, with two things beside the table's columns: what it does, and what it looks at. What the acts
+-- named here do is in Acts (crate `machine`). Assumes nothing.
+use mathlib.Core.Bool.{cond}
 use mathlib.Core.List.{List, [], _∷_}
 use Prim.Native.Nat.{ℕ, _-_}
 use lib.Dec.{ltb}
 use lib.ListN.{getD}
-use Rattle.lock.specs.declared.Node.{Node}
-use Rattle.lock.specs.declared.Shared.{Shared}
-use Rattle.lock.specs.declared.Thread.{Thread}
-use Rattle.number.specs.Numbers.{isBottom, bottom, same}
 use Rattle.number.specs.Sizes.{firstLine}
-use Rattle.number.specs.declared.NodeNo.{NodeNo}
-use Rattle.lines.specs.declared.Act.{Act}
-use Rattle.lines.specs.declared.Act.the-variants.{Choose, ClearNext, SetLocked, Exchange, Stay, LowerFlag, LinkPrev, ReadNext, CloseTail}
-use Rattle.lines.specs.declared.Act.the-variants.{SendMess, Release, TakeMess, PassOn}
 use Rattle.lines.specs.declared.Follow.{Follow}
 use Rattle.lines.specs.declared.Follow.the-variants.{NoNode, My, Prev, Succ}
-use Rattle.lines.specs.declared.Line.{Line}
-use Rattle.lines.specs.declared.Look.{Look}
-use Rattle.lines.specs.declared.Look.the-variants.{AtPrev, AtSucc, AtTail, Straight}
+use Rattle.lines.specs.declared.Row.{Row}
 use Rattle.lines.specs.declared.Wait.{Wait}
 use Rattle.lines.specs.declared.Wait.the-variants.{ForFlag, ForLink, ForUnlock, NoWait}
-use Rattle.lines.specs.declared.Window.{Window}
 
--- a row: what the line does, the node it follows, what it waits for, what it looks at, and its follow-on lines
+-- what a line does, but for the line number; `Stay` is nothing
+pub data Act : Type 0 where
+  Stay : Act
+  Choose : Act
+  ClearNext : Act
+  SetLocked : Act
+  Exchange : Act
+  LowerFlag : Act
+  LinkPrev : Act
+  ReadNext : Act
+  CloseTail : Act
+  SendMess : Act
+  Release : Act
+  TakeMess : Act
+  PassOn : Act
+
+-- what a line looks at to choose between its two follow-on lines
+pub data Look : Type 0 where
+  Straight : Look
+  AtPrev : Look
+  AtSucc : Look
+  AtTail : Look
+
+-- a line: what it does, the node it follows, what it waits for, what it looks at, and its follow-on lines: `goes`, and `other` where what it looks at
+-- is not so
+pub record Line : Type 0 where
+  pub act : Act
+  pub follow : Follow
+  pub wait : Wait
+  pub look : Look
+  pub goes : ℕ
+  pub other : ℕ
+
 abbrev pub row : Act → Follow → Wait → Look → ℕ → ℕ → Line
 row act follow wait look goes other = record { act = act; follow = follow; wait = wait; look = look; goes = goes; other = other }
 
@@ -78,24 +100,6 @@ offTable = row Stay NoNode NoWait Straight 0 0
 unfoldable pub lineAt : ℕ → Line
 lineAt n = cond (ltb n firstLine) offTable (getD lines (n - firstLine) offTable)
 
--- the node that a thread's line follows; 0 where it follows none
-abbrev pub followedBy : Follow → Thread → NodeNo
-followedBy NoNode v = bottom
-followedBy My v = v .my
-followedBy Prev v = v .prev
-followedBy Succ v = v .succ
-
--- what a line works on: the shared numbers, its thread, and the node that it follows
-abbrev pub window : Shared → Thread → Node → Window
-window sh v nd = record { shared = sh; thread = v; node = nd }
-
--- "looks at prev", 16 if 0; "looks at succ", 22 if 0; "if tail = my", 25 if it was
-abbrev pub goesFirst : Look → Window → Bool
-goesFirst Straight w = true
-goesFirst AtPrev w = isBottom (w .thread .prev)
-goesFirst AtSucc w = isBottom (w .thread .succ)
-goesFirst AtTail w = same (w .shared .tail) (w .thread .my)
-
--- the line that comes next
-abbrev pub nextLine : Line → Window → ℕ
-nextLine r w = cond (goesFirst (r .look) w) (r .goes) (r .other)
+-- what the table has of a line: "each one's followed node, its wait and its follow-on lines"
+abbrev pub rowOf : Line → Row
+rowOf l = record { 0 = l .follow; 1 = l .wait; 2 = l .goes; 3 = l .other }
