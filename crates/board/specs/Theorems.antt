@@ -25,7 +25,7 @@ use Rattle.run.specs.Theorems.{run-figure, run-stops, unread-rest}
 use Rattle.run.specs.declared.Ran.{Ran}
 use Rattle.saved.specs.Saved.{SavedFile, read, size}
 use Rattle.schedule.specs.Schedule.{eventRecord, eventsOf}
-use Rattle.step.specs.Step.{step}
+use Rattle.machine.specs.Step.{step}
 use Rattle.word.specs.Word.{howManyTo}
 use Rattle.board.specs.Board.{RunGives, askChain, askChainBytes, askChainConditions, askInUse, askStatus, askWaiting, checkNumber, freshBytes}
 use Rattle.board.specs.Board.{freshConditions, freshNumber, heldIn, runAnswers, runConditions, runNumber, runOf, runReport, runSaved, runUnread}

@@ -14,7 +14,7 @@ use Rattle.number.specs.Refused.{done}
 use Rattle.number.specs.declared.NodeNo.{NodeNo}
 use Rattle.number.specs.declared.ThreadNo.{ThreadNo}
 use Rattle.saved.specs.Saved.{bytesOf}
-use Rattle.step.specs.declared.Stepped.{Stepped}
+use Rattle.machine.specs.declared.Stepped.{Stepped}
 use Rattle.events.specs.Events.{after, answers, linesDone}
 use Rattle.events.specs.declared.Event.{Event}
 

@@ -6,7 +6,7 @@ use mathlib.Core.List.{List, [], _∷_, _++_}
 use mathlib.Core.Path.{_≡_, refl}
 use Prim.Native.Nat.{ℕ}
 use lib.ListN.{replicate, take}
-use Rattle.acts.specs.Acts.{moved, perform}
+use Rattle.machine.specs.Acts.{perform}
 use Rattle.ask.specs.Ask.{howManyThreadsTo, status as statusAsked, statusOf}
 use Rattle.lines.specs.Lines.{lineAt}
 use Rattle.lock.specs.Fresh.{fresh, freshShared, freshState, idle, idleTo}
@@ -14,10 +14,10 @@ use Rattle.lock.specs.State.{_⟨entered≔_⟩, _⟨high≔_⟩, _⟨line≔_�
 use Rattle.lock.specs.Valid.{nodesValid, sharedValid, threadsValid, valid}
 use Rattle.lock.specs.declared.State.{State}
 use Rattle.number.specs.Numbers.{node, place, thread}
-use Rattle.refusals.specs.Refusals.{refusal}
+use Rattle.machine.specs.Refusals.{refusal}
 use Rattle.rows.specs.Rows.{laid}
 use Rattle.saved.specs.Saved.{bytesOf}
-use Rattle.step.specs.Step.{advance, step}
+use Rattle.machine.specs.Step.{advance, step}
 use Rattle.word.specs.Word.{aloneIn, inUse, putIn, takeOut}
 use Rattle.cases.specs.Case.{Case, _is_, _under_gives_, byHand, entered, flag, high, line, locked, low, mess, my, next, nxmy, passes, passesAll}
 use Rattle.cases.specs.Case.{bytes, prev, savedAs, slot, status, succ, tail, used}
@@ -258,6 +258,6 @@ cases = p1 ++ p2 ++ p3 ++ p4 ++ p5 ++ p6 ++ p7 ++ p8 ++ p9 ++ p10 ++ p11 ++ p12
 
 pub all-cases-hold : passesAll step cases ≡ true
 unfolding cases p1 p2 alone p3 p4 p5 p6 queued p7 p8 p9 p10 p11 p12 passesAll passes
-    fresh idleTo valid sharedValid nodesValid threadsValid lineAt inUse aloneIn putIn takeOut refusal perform moved advance step
+    fresh idleTo valid sharedValid nodesValid threadsValid lineAt inUse aloneIn putIn takeOut refusal perform advance step
     statusAsked statusOf howManyThreadsTo bytesOf laid
 all-cases-hold = refl

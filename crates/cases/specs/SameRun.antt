@@ -9,8 +9,8 @@ use Rattle.lock.specs.Valid.{Valid}
 use Rattle.lock.specs.declared.State.{State}
 use Rattle.number.specs.Refused.{done}
 use Rattle.number.specs.Tests.{first-holds, second-holds}
-use Rattle.step.specs.Step.{step}
-use Rattle.step.specs.Theorems.{Complete, Tool, complete-same, valid-kept}
+use Rattle.machine.specs.Step.{step}
+use Rattle.machine.specs.Theorems.{Complete, Tool, complete-same, valid-kept}
 use Rattle.cases.specs.Case.{Case, passes}
 use Rattle.events.specs.Events.{acceptsAll, after, answers, linesDone}
 use Rattle.events.specs.declared.Event.{Event}

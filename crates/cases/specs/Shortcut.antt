@@ -11,7 +11,7 @@ use mathlib.Core.Path.{_≡_, refl}
 use Prim.Native.Nat.{ℕ}
 use lib.Dec.{eqb}
 use lib.ListN.{replicate, take}
-use Rattle.acts.specs.Acts.{moved, perform}
+use Rattle.machine.specs.Acts.{perform}
 use Rattle.ask.specs.Ask.{answered, free, held, howManyThreadsTo, status, statusOf}
 use Rattle.figure.specs.Figure.{_⟪succ_≔_⟫, my, next, succ}
 use Rattle.lines.specs.Lines.{lineAt}
@@ -21,9 +21,9 @@ use Rattle.lock.specs.Theorems.{fresh-valid}
 use Rattle.lock.specs.Valid.{nodesValid, sharedValid, threadsValid, valid}
 use Rattle.lock.specs.declared.State.{State}
 use Rattle.number.specs.Numbers.{isBottom}
-use Rattle.refusals.specs.Refusals.{refusal}
-use Rattle.step.specs.Step.{advance, step, stepped}
-use Rattle.step.specs.Theorems.{Complete, Tool}
+use Rattle.machine.specs.Refusals.{refusal}
+use Rattle.machine.specs.Step.{advance, step, stepped}
+use Rattle.machine.specs.Theorems.{Complete, Tool}
 use Rattle.word.specs.Word.{aloneIn, inUse, putIn, takeOut}
 use Rattle.cases.specs.Case.{Case, _is_, asExpected, begins, equal, flag, line, locked, passes, tail}
 use Rattle.cases.specs.Cases.{passage}
@@ -49,7 +49,7 @@ pub record NotFree : Type 0 where
   pub shortcut : freeByTail inside ≡ free
 
 pub not-free : NotFree
-unfolding after idleTo valid sharedValid nodesValid threadsValid lineAt inUse aloneIn putIn takeOut refusal perform moved advance step status statusOf
+unfolding after idleTo valid sharedValid nodesValid threadsValid lineAt inUse aloneIn putIn takeOut refusal perform advance step status statusOf
     howManyThreadsTo
 not-free = record { tail-empty = refl; thread-inside = refl; asked = refl; shortcut = refl }
 
@@ -88,7 +88,7 @@ pub record Tried : Type 0 where
 
 tried : Tried
 unfolding readsNextAgain handedOn passes equal begins asExpected acceptsAll answers after linesDone fresh idleTo valid sharedValid nodesValid threadsValid
-    lineAt inUse aloneIn putIn takeOut refusal perform moved advance step
+    lineAt inUse aloneIn putIn takeOut refusal perform advance step
 tried = record {
   stepped-on = record { from-valid = fresh-valid 3 2 refl; accepted = refl; passed = refl };
   still-locked = refl;

@@ -7,7 +7,7 @@ use mathlib.Core.Path.{_≡_, ap, refl}
 use native.Mathlib.Omega.{arith}
 use lib.Dec.{eqb}
 use lib.ListN.{replicate}
-use Rattle.acts.specs.Acts.{moved, perform}
+use Rattle.machine.specs.Acts.{perform}
 use Rattle.ask.specs.Ask.{howManyThreadsTo, status as statusAsked, statusOf}
 use Rattle.figure.specs.Figure.{_⟪line_≔_⟫}
 use Rattle.lines.specs.Lines.{lineAt}
@@ -19,12 +19,12 @@ use Rattle.number.specs.Numbers.{node, bottom, thread}
 use Rattle.number.specs.Refused.{done, mustWait}
 use Rattle.number.specs.declared.NodeNo.{NodeNo}
 use Rattle.number.specs.declared.ThreadNo.{ThreadNo}
-use Rattle.refusals.specs.Refusals.{refusal}
-use Rattle.step.specs.Conditions.{Follows}
-use Rattle.step.specs.Conditions.Follows.{my-at, prev-at, succ-at}
-use Rattle.step.specs.Step.{advance, step, stepped}
-use Rattle.step.specs.Theorems.{Complete, Possible, Sound, Tool, complete}
-use Rattle.step.specs.declared.Stepped.{Stepped}
+use Rattle.machine.specs.Refusals.{refusal}
+use Rattle.machine.specs.Conditions.{Follows}
+use Rattle.machine.specs.Conditions.Follows.{my-at, prev-at, succ-at}
+use Rattle.machine.specs.Step.{advance, step, stepped}
+use Rattle.machine.specs.Theorems.{Complete, Possible, Sound, Tool, complete}
+use Rattle.machine.specs.declared.Stepped.{Stepped}
 use Rattle.word.specs.Word.{aloneIn, inUse, putIn, takeOut}
 use Rattle.cases.specs.Case.{line, low, passes, prev}
 use Rattle.cases.specs.Cases.{alone, bothThrough14, passage, queued}
@@ -87,7 +87,7 @@ pub record Tried : Type 0 where
 
 pub tried : Tried
 unfolding refusesAll alwaysFresh standsStill wholeAtOnce alone queued passes acceptsAll answers after
-    fresh idleTo valid sharedValid nodesValid threadsValid lineAt inUse aloneIn putIn takeOut refusal perform moved advance step
+    fresh idleTo valid sharedValid nodesValid threadsValid lineAt inUse aloneIn putIn takeOut refusal perform advance step
     statusAsked statusOf howManyThreadsTo
 tried = record {
   P2 = record { from-valid = fresh-valid 2 2 refl; accepted = refl; passed = refl };

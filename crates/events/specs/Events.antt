@@ -10,7 +10,7 @@ use Rattle.lock.specs.State.{threadAt}
 use Rattle.lock.specs.declared.State.{State}
 use Rattle.number.specs.Numbers.{node, thread}
 use Rattle.number.specs.Refused.{done}
-use Rattle.step.specs.Demands.{Tool}
+use Rattle.machine.specs.Demands.{Tool}
 use Rattle.events.specs.declared.Event.{Event}
 
 infix 68 _times_

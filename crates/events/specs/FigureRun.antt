@@ -8,8 +8,8 @@ use Prim.Native.Nat.{ℕ}
 use Rattle.figure.specs.Figure.{Figure}
 use Rattle.lock.specs.declared.State.{State}
 use Rattle.number.specs.Refused.{done}
-use Rattle.step.specs.Conditions.{First, eventConditions}
-use Rattle.step.specs.Demands.{Possible}
+use Rattle.machine.specs.Conditions.{First, eventConditions}
+use Rattle.machine.specs.Demands.{Possible}
 use Rattle.events.specs.Row.{goesOn, waits}
 use Rattle.events.specs.declared.Event.{Event}
 

@@ -15,8 +15,8 @@ use Rattle.number.specs.Refused.{done}
 use Rattle.number.specs.Tests.{neither-holds}
 use Rattle.rows.specs.Rows.{over}
 use Rattle.rows.specs.Stored.{set-behind}
-use Rattle.step.specs.Demands.{Tool}
-use Rattle.step.specs.declared.Stepped.{Stepped}
+use Rattle.machine.specs.Demands.{Tool}
+use Rattle.machine.specs.declared.Stepped.{Stepped}
 use Rattle.events.specs.Proof.Answers.{count-more, on-counts, stopping-append}
 use Rattle.events.specs.Row.{executed, executes, goesOn, howManyOf, rowAnswers, rowEnd, stopping, waited, waits}
 use Rattle.events.specs.declared.Event.{Event}

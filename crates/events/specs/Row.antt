@@ -7,7 +7,7 @@ use Prim.Native.Nat.{ℕ, _+_}
 use lib.Dec.{eqb}
 use Rattle.lock.specs.declared.State.{State}
 use Rattle.number.specs.Refused.{done, mustWait}
-use Rattle.step.specs.Demands.{Tool}
+use Rattle.machine.specs.Demands.{Tool}
 use Rattle.events.specs.declared.Event.{Event}
 
 -- ---- an answer

@@ -12,8 +12,8 @@ use Rattle.lock.specs.declared.State.{State}
 use Rattle.number.specs.Refused.{done, noPlaceLeft, noSuchThread}
 use Rattle.number.specs.declared.NodeNo.{NodeNo}
 use Rattle.number.specs.declared.ThreadNo.{ThreadNo}
-use Rattle.step.specs.Demands.{Tool}
-use Rattle.step.specs.Step.{advance, step}
+use Rattle.machine.specs.Demands.{Tool}
+use Rattle.machine.specs.Step.{advance, step}
 use Rattle.events.specs.Events.{after, answers}
 use Rattle.events.specs.FigureRun.{FigureRun}
 use Rattle.events.specs.Proof.Against

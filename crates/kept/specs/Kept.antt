@@ -5,7 +5,7 @@ use Prim.Native.Nat.{ℕ}
 use Rattle.lock.specs.declared.State.{State}
 use Rattle.number.specs.declared.NodeNo.{NodeNo}
 use Rattle.number.specs.declared.ThreadNo.{ThreadNo}
-use Rattle.step.specs.Step.{step}
+use Rattle.machine.specs.Step.{step}
 
 -- "with the same results": the answer
 abbrev pub keptAnswer : State → ThreadNo → NodeNo → ℕ

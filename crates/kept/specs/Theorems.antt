@@ -7,8 +7,8 @@ use Rattle.number.specs.OneResult.{only}
 use Rattle.number.specs.Refused.{done}
 use Rattle.number.specs.declared.NodeNo.{NodeNo}
 use Rattle.number.specs.declared.ThreadNo.{ThreadNo}
-use Rattle.step.specs.Step.{step, stepped}
-use Rattle.step.specs.Theorems.{refused-unchanged}
+use Rattle.machine.specs.Step.{step, stepped}
+use Rattle.machine.specs.Theorems.{refused-unchanged}
 use Rattle.kept.specs.Kept.{keptAnswer, keptState}
 
 module _ (s : State) (t : ThreadNo) (n : NodeNo) where

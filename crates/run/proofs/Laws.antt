@@ -22,9 +22,9 @@ use Rattle.number.specs.Tests.{neither-holds}
 use Rattle.number.specs.declared.NodeNo.{NodeNo}
 use Rattle.number.specs.declared.ThreadNo.{ThreadNo}
 use Rattle.schedule.specs.Schedule.{eventsOf}
-use Rattle.step.specs.InPlace.{inPlace, inPlaceBy, nodeStood, openedWith, storedBack, toldTo}
-use Rattle.step.specs.Step.{advance, followed, stepped}
-use Rattle.step.specs.declared.Stepped.{Stepped}
+use Rattle.machine.specs.InPlace.{inPlace, inPlaceBy, nodeStood, openedWith, storedBack, toldTo}
+use Rattle.machine.specs.Step.{advance, followed, stepped}
+use Rattle.machine.specs.declared.Stepped.{Stepped}
 use Rattle.run.specs.Run.{ran, ranOver, reportOf, reported, tallied}
 use Rattle.run.specs.declared.Report.{Report}
 

@@ -14,7 +14,7 @@ use Rattle.number.specs.Refused.{Refusal, _if_, badSchedule, badSize, badState,
 use Rattle.rows.specs.Rows.{over}
 use Rattle.schedule.specs.Schedule.{eventsIn, eventsOf, good, headingOf, startOf}
 use Rattle.schedule.specs.declared.Heading.{Heading}
-use Rattle.step.specs.Step.{advance, step}
+use Rattle.machine.specs.Step.{advance, step}
 use Rattle.run.specs.declared.Ran.{Ran}
 use Rattle.run.specs.declared.Report.{Report}
 

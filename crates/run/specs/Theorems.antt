@@ -16,7 +16,7 @@ use Rattle.number.specs.OneResult.{only}
 use Rattle.number.specs.Refused.{badState, done, noPlaceLeft, noSuchThread, tooShort}
 use Rattle.rows.specs.Rows.{Bytes, laid, over}
 use Rattle.schedule.specs.Schedule.{eventRecord, eventsOf, mostBytes, scheduleOf, startOf, width}
-use Rattle.step.specs.Step.{step}
+use Rattle.machine.specs.Step.{step}
 use Rattle.run.specs.Conditions.{Accepted, Condition, First, NoneApply, conditions}
 use Rattle.run.specs.Proof.Counts
 use Rattle.run.specs.Proof.Refused

@@ -10,7 +10,7 @@ use Rattle.events.specs.Row.{goesOn}
 use Rattle.events.specs.declared.Event.{Event}
 use Rattle.lock.specs.declared.State.{State}
 use Rattle.schedule.specs.Schedule.{eventsOf, scheduleOf}
-use Rattle.step.specs.Step.{advance}
+use Rattle.machine.specs.Step.{advance}
 use Rattle.text.specs.Decimal.{letters}
 use Rattle.text.specs.Text.{begin, eventFields, lineEnd, numbers}
 

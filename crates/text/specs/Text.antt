@@ -18,8 +18,8 @@ use Rattle.rows.specs.Rows.{over}
 use Rattle.run.specs.Run.{ranOver}
 use Rattle.run.specs.declared.Ran.{Ran}
 use Rattle.schedule.specs.Schedule.{GoodSchedule, eventsOf, good, headingOf}
-use Rattle.step.specs.Step.{advance, noThread}
-use Rattle.step.specs.declared.Stepped.{Stepped}
+use Rattle.machine.specs.Step.{advance, noThread}
+use Rattle.machine.specs.declared.Stepped.{Stepped}
 use Rattle.text.specs.Decimal.{decimal, letters}
 use Rattle.text.specs.declared.Written.{Written}
 

@@ -8,7 +8,7 @@ use Prim.Native.Nat.{ℕ, _^_, _≤_, _<_}
 use native.Mathlib.Omega.{arith}
 use lib.Dec.{eqb}
 use lib.ListN.{drop, getD, length, take}
-use Rattle.acts.specs.Acts.{moved, perform}
+use Rattle.machine.specs.Acts.{perform}
 use Rattle.ask.specs.Ask.{howManyThreadsTo, status, statusOf, waiting}
 use Rattle.events.specs.FigureRun.{FigureRun}
 use Rattle.events.specs.Row.{howManyOf, rowAnswers, rowEnd, stopping}
@@ -19,12 +19,12 @@ use Rattle.lock.specs.Valid.{nodesValid, sharedValid, threadsValid, valid}
 use Rattle.number.specs.First.{First}
 use Rattle.number.specs.OneResult.{only}
 use Rattle.number.specs.Refused.{done}
-use Rattle.refusals.specs.Refusals.{refusal}
+use Rattle.machine.specs.Refusals.{refusal}
 use Rattle.rows.specs.Rows.{Bytes, laid, values}
 use Rattle.run.specs.Run.{answersOf, ranOver, reportOf, run}
 use Rattle.schedule.specs.Schedule.{GoodSchedule, eventsOf, headingOf, scheduleOf}
 use Rattle.schedule.specs.Theorems.{good-schedule}
-use Rattle.step.specs.Step.{advance}
+use Rattle.machine.specs.Step.{advance}
 use Rattle.word.specs.Word.{aloneIn, inUse, putIn, takeOut}
 use Rattle.text.specs.Decimal.{EachDigit, decimal, decimalTo, digit, lettersFrom, valueFrom}
 use Rattle.text.specs.Proof.Begun
@@ -134,6 +134,6 @@ prints b out bytes room = Given.prints b out (λ h. omega (arith, text-fits b by
 -- "T = K = 1, events (1,1), (1,0), (1,0), (1,0), (2,0)": its text is document 01's, line by line. (The one `unfolding` line names what it computes by.)
 pub whole-run : textOf wholeRun ≡ page wholeText
 unfolding textOf page lettersFrom eventLines eventLine lineBefore numbers decimal decimalTo endLine eventsOf values scheduleOf laid fresh idleTo
-    advance refusal lineAt inUse aloneIn putIn takeOut moved perform ranOver reportOf rowAnswers rowEnd howManyOf stopping
+    advance refusal lineAt inUse aloneIn putIn takeOut perform ranOver reportOf rowAnswers rowEnd howManyOf stopping
     status statusOf waiting howManyThreadsTo valid sharedValid nodesValid threadsValid
 whole-run = refl

@@ -11,7 +11,7 @@ use Prim.Native.Nat.{ℕ, zero, suc}
 use native.Mathlib.Omega.{arith}
 use lib.Dec.{eqb}
 use lib.ListN.{getD}
-use Rattle.acts.specs.Acts.{moved, perform}
+use Rattle.machine.specs.Acts.{perform}
 use Rattle.events.specs.Events.{_times_, acceptsAll, after, event}
 use Rattle.events.specs.Row.{goesOn}
 use Rattle.events.specs.declared.Event.{Event}
@@ -25,9 +25,9 @@ use Rattle.number.specs.Numbers.{behind, bottom, isBottom, node, thread}
 use Rattle.number.specs.Refused.{done, mustWait}
 use Rattle.number.specs.declared.NodeNo.{NodeNo}
 use Rattle.number.specs.declared.ThreadNo.{ThreadNo}
-use Rattle.refusals.specs.Refusals.{refusal}
-use Rattle.step.specs.Demands.{Tool}
-use Rattle.step.specs.Step.{advance, step, stepped}
+use Rattle.machine.specs.Refusals.{refusal}
+use Rattle.machine.specs.Demands.{Tool}
+use Rattle.machine.specs.Step.{advance, step, stepped}
 use Rattle.theory.specs.Demands.{Busy, Demand3, OneInside, PassagesPrefix, SomeCanStep, doneAt, exchanges, idleLine, passages, sectionLine}
 use Rattle.theory.specs.FigureSteps.{FigureSteps, Within}
 use Rattle.theory.specs.FigureSteps.FigureSteps.{no-steps, one-step}
@@ -38,7 +38,7 @@ use Rattle.word.specs.Word.{aloneIn, inUse, putIn, takeOut}
 -- The step, with what line l does replaced: where the step would execute line l, or wait there, the act is done and the answer is 0. All else is the
 -- step's, its other refusals too. (The `unfolding` line names what a list of events computes by, once for all that is computed below.)
 unfoldable pub spoilt : ℕ → (State → ThreadNo → State) → Tool
-unfolding after doneAt idleTo valid sharedValid nodesValid threadsValid lineAt inUse aloneIn putIn takeOut refusal perform moved advance step
+unfolding after doneAt idleTo valid sharedValid nodesValid threadsValid lineAt inUse aloneIn putIn takeOut refusal perform advance step
 spoilt l act s t n =
     let r = step s t n in
     cond (eqb (line s t) l && goesOn (r .answer)) (stepped done (act s t)) r

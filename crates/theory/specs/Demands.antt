@@ -23,8 +23,8 @@ use Rattle.number.specs.Sizes.{mostNodes, mostThreads}
 use Rattle.number.specs.declared.ThreadNo.{ThreadNo}
 use Rattle.run.specs.Run.{refusal, run, runBytes, stepAnswers}
 use Rattle.schedule.specs.Schedule.{eventsOf}
-use Rattle.step.specs.Demands.{Tool}
-use Rattle.step.specs.Step.{step}
+use Rattle.machine.specs.Demands.{Tool}
+use Rattle.machine.specs.Step.{step}
 use Rattle.theory.specs.FigureSteps.{FigureSteps}
 
 -- ---- the lines that demand 3 names

@@ -8,7 +8,7 @@ use Rattle.events.specs.declared.Event.{Event}
 use Rattle.lock.specs.Fresh.{freshState}
 use Rattle.lock.specs.Valid.{Valid}
 use Rattle.lock.specs.declared.State.{State}
-use Rattle.step.specs.Step.{step}
+use Rattle.machine.specs.Step.{step}
 use Rattle.theory.specs.Demands.{Demand3, DoneAreFigure, EnteredCount, FreeExactly, FromFresh, Holds, Never9To11, NthPassage, OneHolds, OneInside}
 use Rattle.theory.specs.Demands.{PassagesPrefix, PassesOnce, RunHolds, SomeCanStep, TakesFigure, eventsTaken}
 use Rattle.theory.specs.FigureSteps.{FigureSteps}

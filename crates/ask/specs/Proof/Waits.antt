@@ -5,7 +5,7 @@ use Prim.Native.Nat.{ℕ, _≤_}
 use lib.Dec.{T}
 use Rattle.lines.specs.ByRow.{of-line}
 use Rattle.lines.specs.Lines.{lineAt}
-use Rattle.lines.specs.declared.Line.{Line}
+use Rattle.lines.specs.Lines.{Line}
 use Rattle.lock.specs.State.{threadAt}
 use Rattle.lock.specs.Valid.{Valid}
 use Rattle.lock.specs.declared.State.{State}

@@ -11,9 +11,9 @@ use Rattle.lock.specs.declared.State.{State}
 use Rattle.number.specs.Refused.{done}
 use Rattle.number.specs.declared.NodeNo.{NodeNo}
 use Rattle.number.specs.declared.ThreadNo.{ThreadNo}
-use Rattle.step.specs.Step.{advance, step, stepped}
-use Rattle.step.specs.Theorems.{accepted-possible, complete, sound}
-use Rattle.step.specs.declared.Stepped.{Stepped}
+use Rattle.machine.specs.Step.{advance, step, stepped}
+use Rattle.machine.specs.Theorems.{accepted-possible, complete, sound}
+use Rattle.machine.specs.declared.Stepped.{Stepped}
 use Rattle.events.specs.FigureRun.{FigureRun}
 use Rattle.events.specs.FigureRun.FigureRun.{executed, no-events, stopped, waited}
 use Rattle.events.specs.Proof.Answers.{on-waits, stop-not-done, wait-goes-on, wait-not-done}

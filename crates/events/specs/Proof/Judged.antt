@@ -14,10 +14,10 @@ use Rattle.number.specs.FirstThat.{AllGiven, first-behind, first-has}
 use Rattle.number.specs.Refused.{badState, done, noPlaceLeft, noSuchThread}
 use Rattle.number.specs.declared.NodeNo.{NodeNo}
 use Rattle.number.specs.declared.ThreadNo.{ThreadNo}
-use Rattle.step.specs.Conditions.{First, conditions, eventConditions}
-use Rattle.step.specs.Step.{advance, step, stepped}
-use Rattle.step.specs.Theorems.{advance-is-step, exactly-when, refused-unchanged, size-kept, valid-kept}
-use Rattle.step.specs.declared.Stepped.{Stepped}
+use Rattle.machine.specs.Conditions.{First, conditions, eventConditions}
+use Rattle.machine.specs.Step.{advance, step, stepped}
+use Rattle.machine.specs.Theorems.{advance-is-step, exactly-when, refused-unchanged, size-kept, valid-kept}
+use Rattle.machine.specs.declared.Stepped.{Stepped}
 use Rattle.events.specs.Proof.Answers.{stop-not-done}
 use Rattle.events.specs.Proof.Rows.{SameRow, by-events, kept, same-row, stop-end}
 use Rattle.events.specs.Row.{goesOn, rowAnswers, rowEnd, stopping}

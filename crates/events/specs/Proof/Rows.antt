@@ -8,8 +8,8 @@ use native.Mathlib.Omega.{arith}
 use lib.ListN.{length, length-append, take}
 use Rattle.lock.specs.declared.State.{State}
 use Rattle.number.specs.Refused.{done}
-use Rattle.step.specs.Demands.{Tool}
-use Rattle.step.specs.declared.Stepped.{Stepped}
+use Rattle.machine.specs.Demands.{Tool}
+use Rattle.machine.specs.declared.Stepped.{Stepped}
 use Rattle.events.specs.Events.{after, answers}
 use Rattle.events.specs.Proof.Answers.{Counted, stop-not-done, up-to-stop-counted}
 use Rattle.events.specs.Row.{goesOn, rowAnswers, rowEnd, stopping, upToStop}

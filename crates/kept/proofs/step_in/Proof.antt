@@ -51,8 +51,8 @@ use Rattle.number.proofs.NodeNo as P
 use Rattle.number.proofs.NodeNo.Laws as P′
 use Rattle.number.proofs.ThreadNo as N
 use Rattle.number.proofs.ThreadNo.Laws as N′
-use Rattle.step.specs.Step.{step as stepOf}
-use Rattle.step.specs.declared.Stepped.{Stepped}
+use Rattle.machine.specs.Step.{step as stepOf}
+use Rattle.machine.specs.declared.Stepped.{Stepped}
 use Rattle.step.proofs.Stepped as S
 use Rattle.step.proofs.Stepped.Laws as S′
 use Rattle.step.proofs.step as step

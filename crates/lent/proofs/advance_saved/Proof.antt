@@ -8,7 +8,7 @@ use Rattle.lock.specs.State.{threadAt}
 use Rattle.lock.specs.declared.Shared.{Shared}
 use Rattle.number.specs.Refused.{done}
 use Rattle.saved.specs.Saved.{bytesOf, stateIn}
-use Rattle.step.specs.Step.{closed, followed, noThread, toldOf}
+use Rattle.machine.specs.Step.{closed, followed, noThread, toldOf}
 use Rattle.lent.specs.Lent.{lentAnswer, lentBytes}
 use Rattle.lent.specs.Proof.Window.{no-thread, same-size, told-accepted, told-refused}
 use Rattle.lent.proofs.advance_saved.Statement.{statement}

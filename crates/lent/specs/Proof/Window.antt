@@ -19,9 +19,9 @@ use Rattle.saved.specs.Inner.{Holds}
 use Rattle.saved.specs.Proof.Read.{done-good, good-read}
 use Rattle.saved.specs.Saved.{bytesOf, read, savedGood, stateIn}
 use Rattle.saved.specs.Theorems.{read-valid}
-use Rattle.step.specs.Step.{advance, closed, followed, noThread, step, stepped, toldOf}
-use Rattle.step.specs.Theorems.{size-kept}
-use Rattle.step.specs.declared.Stepped.{Stepped}
+use Rattle.machine.specs.Step.{advance, closed, followed, noThread, step, stepped, toldOf}
+use Rattle.machine.specs.Theorems.{size-kept}
+use Rattle.machine.specs.declared.Stepped.{Stepped}
 use Rattle.lent.specs.Lent.{lentAnswer, lentBytes}
 use Rattle.lent.specs.Proof.Answer.{of-accepted, of-bad, of-read, of-refused}
 use Rattle.lent.specs.Proof.Read.{step-advances}

@@ -17,10 +17,10 @@ use Rattle.lock.specs.declared.State.{State}
 use Rattle.number.specs.Refused.{done}
 use Rattle.schedule.specs.Schedule.{eventsOf, noEvent}
 use Rattle.schedule.specs.Theorems.{few-events, length-events}
-use Rattle.step.specs.InPlace.{inPlace}
-use Rattle.step.specs.Step.{advance, stepped}
-use Rattle.step.specs.Theorems.{in-place}
-use Rattle.step.specs.declared.Stepped.{Stepped}
+use Rattle.machine.specs.InPlace.{inPlace}
+use Rattle.machine.specs.Step.{advance, stepped}
+use Rattle.machine.specs.Theorems.{in-place}
+use Rattle.machine.specs.declared.Stepped.{Stepped}
 use Rattle.run.proofs.Laws.{over-gives, tallied-on, tallied-stop, turn-in-place}
 use Rattle.run.specs.Run.{ran, reported}
 use Rattle.run.proofs.run_events.Statement.{statement}

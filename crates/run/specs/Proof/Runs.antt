@@ -20,7 +20,7 @@ use Rattle.rows.specs.Rows.{over}
 use Rattle.rows.specs.Stored.{over-at, over-later}
 use Rattle.schedule.specs.Schedule.{eventsIn, eventsOf}
 use Rattle.schedule.specs.Theorems.{length-events}
-use Rattle.step.specs.Step.{advance, step}
+use Rattle.machine.specs.Step.{advance, step}
 use Rattle.run.specs.Conditions.{Accepted, First, conditions}
 use Rattle.run.specs.Proof.Refused.{accepted, not-refused, refused-exactly}
 use Rattle.run.specs.Run.{answersOf, ran, ranOver, refusal, reportOf, reported, run, runBytes, stepAnswers, taken}

@@ -16,7 +16,7 @@ use Rattle.rows.specs.Rows.{over}
 use Rattle.schedule.specs.Schedule.{eventsOf, mostBytes, scheduleOf, width}
 use Rattle.schedule.specs.Theorems.{events-written, heading-written, length-written, many-written}
 use Rattle.schedule.specs.declared.Heading.{Heading}
-use Rattle.step.specs.Step.{advance}
+use Rattle.machine.specs.Step.{advance}
 use Rattle.run.specs.Conditions.{Accepted}
 use Rattle.run.specs.Proof.Refused.{accepted-written}
 use Rattle.run.specs.Proof.Runs.{gives, report-of, run-size, run-valid, state-of, stop-of, stores}

@@ -21,7 +21,7 @@ use Rattle.rows.specs.Loops.{laid-append}
 use Rattle.rows.specs.Rows.{Bytes, laid}
 use Rattle.schedule.specs.Schedule.{eventRecord, eventsOf, scheduleOf, startOf}
 use Rattle.schedule.specs.Theorems.{events-written, good-schedule, length-written, rest-of-events}
-use Rattle.step.specs.Step.{step}
+use Rattle.machine.specs.Step.{step}
 use Rattle.run.specs.Conditions.{Accepted}
 use Rattle.run.specs.Proof.Refused.{refusal-at-most}
 use Rattle.run.specs.Proof.Runs.{answered, answers-by-step, refused, run-stops, stop-of, taken-all}

@@ -15,8 +15,8 @@ use Rattle.events.specs.Row.{goesOn}
 use Rattle.events.specs.declared.Event.{Event}
 use Rattle.lock.specs.declared.State.{State}
 use Rattle.rows.specs.Stored.{sets-append, sets-over}
-use Rattle.step.specs.Step.{advance}
-use Rattle.step.specs.declared.Stepped.{Stepped}
+use Rattle.machine.specs.Step.{advance}
+use Rattle.machine.specs.declared.Stepped.{Stepped}
 use Rattle.text.specs.Decimal.{decimal}
 use Rattle.text.specs.Inner.{Held, lineRoom, placed}
 use Rattle.text.specs.Proof.Digits.{decimal-within}

@@ -13,8 +13,8 @@ use Rattle.events.specs.declared.Event.{Event}
 use Rattle.lock.specs.declared.State.{State}
 use Rattle.schedule.specs.Schedule.{eventsOf, good, noEvent}
 use Rattle.schedule.specs.Theorems.{few-events, length-events}
-use Rattle.step.specs.Step.{advance}
-use Rattle.step.specs.declared.Stepped.{Stepped}
+use Rattle.machine.specs.Step.{advance}
+use Rattle.machine.specs.declared.Stepped.{Stepped}
 use Rattle.text.specs.Decimal.{lettersFrom}
 use Rattle.text.specs.Inner.{farthest, placed}
 use Rattle.text.specs.Proof.Lines.{lines-cons, lines-none, lines-within, placed-append, placed-length, placed-none}

@@ -7,7 +7,7 @@ use Prim.Native.Nat.{ℕ, _+_}
 use Rattle.events.specs.Row.{goesOn, rowAnswers}
 use Rattle.events.specs.declared.Event.{Event}
 use Rattle.lock.specs.declared.State.{State}
-use Rattle.step.specs.Step.{advance}
+use Rattle.machine.specs.Step.{advance}
 use Rattle.text.specs.Shown.{answerIn, fieldsFrom, linesWith}
 use Rattle.text.specs.Text.{eventFields, eventLine, eventLines, numbers}
 

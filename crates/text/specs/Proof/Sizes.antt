@@ -27,8 +27,8 @@ use Rattle.run.specs.Run.{ran, ranOver, reportOf}
 use Rattle.run.specs.declared.Ran.{Ran}
 use Rattle.schedule.specs.Schedule.{eventsIn, eventsOf, good, noEvent, startOf}
 use Rattle.schedule.specs.Theorems.{event-none, event-there, few-events, length-events}
-use Rattle.step.specs.Step.{advance, noThread}
-use Rattle.step.specs.declared.Stepped.{Stepped}
+use Rattle.machine.specs.Step.{advance, noThread}
+use Rattle.machine.specs.declared.Stepped.{Stepped}
 use Rattle.text.specs.Decimal.{decimal, lettersFrom}
 use Rattle.text.specs.Proof.Begun.{begin-valid}
 use Rattle.text.specs.Proof.Digits.{decimal-short}

@@ -15,8 +15,8 @@ use Rattle.lock.specs.declared.State.{State}
 use Rattle.number.specs.Refused.{done}
 use Rattle.number.specs.Tests.{first-holds, second-holds}
 use Rattle.number.specs.declared.ThreadNo.{ThreadNo}
-use Rattle.step.specs.Demands.{Tool}
-use Rattle.step.specs.Step.{step}
+use Rattle.machine.specs.Demands.{Tool}
+use Rattle.machine.specs.Step.{step}
 use Rattle.theory.specs.Demands.{Never9To11, NthPassage, PassesOnce, Prefix, acceptedAt, doneAt, exchangeLine, exchanges, howOften, nobody, passages}
 use Rattle.theory.specs.Proof.Reached.{Reached, event-reached, events-reached}
 use Rattle.theory.specs.Proof.States.{never}

@@ -28,8 +28,8 @@ use Rattle.number.specs.Refused.{done}
 use Rattle.number.specs.Sizes.{mostNodes, mostThreads}
 use Rattle.number.specs.declared.NodeNo.{NodeNo}
 use Rattle.number.specs.declared.ThreadNo.{ThreadNo}
-use Rattle.step.specs.Step.{step}
-use Rattle.step.specs.Theorems.{accepted-possible, refused-unchanged, sound, valid-kept}
+use Rattle.machine.specs.Step.{step}
+use Rattle.machine.specs.Theorems.{accepted-possible, refused-unchanged, sound, valid-kept}
 use Rattle.theory.specs.Demands.{acceptedAt, exchangeLine, exchanges, passages, sectionLine}
 use Rattle.theory.specs.Proof.Look.{look, threadsOf}
 use Rattle.theory.specs.Proof.Steps.{Kept, Tallied, keeps}

@@ -20,7 +20,7 @@ use Rattle.run.specs.Run.{refusal, reportOf, run, runBytes, stepAnswers}
 use Rattle.run.specs.Theorems.{accepted-exactly, answer-at-place, run-refused, run-row}
 use Rattle.run.specs.declared.Ran.{Ran}
 use Rattle.schedule.specs.Schedule.{eventsOf}
-use Rattle.step.specs.Step.{step}
+use Rattle.machine.specs.Step.{step}
 use Rattle.theory.specs.Demands.{Is9To11, eventsTaken}
 use Rattle.theory.specs.Proof.Passages.{never-answered}
 use Rattle.theory.specs.Proof.Reached.{Reached}

@@ -26,11 +26,11 @@ use Rattle.number.specs.Sizes.{lastPlace}
 use Rattle.number.specs.declared.NodeNo.{NodeNo}
 use Rattle.number.specs.declared.Place.{Place}
 use Rattle.number.specs.declared.ThreadNo.{ThreadNo}
-use Rattle.step.specs.Conditions.{Follows, Waits, among, conditions, followMy}
-use Rattle.step.specs.Conditions.Follows.{my-at, prev-at, succ-at}
-use Rattle.step.specs.Conditions.Waits.{at16, at19, at23}
-use Rattle.step.specs.Step.{step}
-use Rattle.step.specs.Theorems.{accepted-exactly, exactly-when}
+use Rattle.machine.specs.Conditions.{Follows, Waits, among, conditions, followMy}
+use Rattle.machine.specs.Conditions.Follows.{my-at, prev-at, succ-at}
+use Rattle.machine.specs.Conditions.Waits.{at16, at19, at23}
+use Rattle.machine.specs.Step.{step}
+use Rattle.machine.specs.Theorems.{accepted-exactly, exactly-when}
 use Rattle.theory.specs.Demands.{Busy, EnteredCount, FreeExactly, Is9To11, OneHolds, OneInside, SomeCanStep}
 use Rattle.theory.specs.Proof.Look.{seen-at, seen-off, seen-within, threadsOf}
 use Rattle.theory.specs.Proof.Reached.{Reached}

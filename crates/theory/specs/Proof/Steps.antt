@@ -25,9 +25,9 @@ use Rattle.lock.specs.declared.Thread.{Thread}
 use Rattle.number.specs.Numbers.{behind, bottom, isBottom, same}
 use Rattle.number.specs.declared.NodeNo.{NodeNo}
 use Rattle.number.specs.declared.ThreadNo.{ThreadNo}
-use Rattle.step.specs.Conditions.{Follows}
-use Rattle.step.specs.Conditions.Follows.{my-at, prev-at, succ-at}
-use Rattle.step.specs.Demands.{Possible}
+use Rattle.machine.specs.Conditions.{Follows}
+use Rattle.machine.specs.Conditions.Follows.{my-at, prev-at, succ-at}
+use Rattle.machine.specs.Demands.{Possible}
 use Rattle.theory.specs.Demands.{exchangeLine, sectionLine}
 use Rattle.theory.specs.Proof.Look.{seen-ahead, look, one-of, onward, seen-at, threadsOf}
 use Rattle.theory.specs.Queue.AtLines.{In}

@@ -14,10 +14,10 @@ use Rattle.lock.specs.declared.State.{State}
 use Rattle.number.specs.Refused.{done}
 use Rattle.number.specs.Sizes.{lastPlace}
 use Rattle.number.specs.declared.ThreadNo.{ThreadNo}
-use Rattle.step.specs.Demands.{Possible}
-use Rattle.step.specs.Step.{step, stepped}
-use Rattle.step.specs.Theorems.{accepted-possible, complete, refused-unchanged, sound}
-use Rattle.step.specs.declared.Stepped.{Stepped}
+use Rattle.machine.specs.Demands.{Possible}
+use Rattle.machine.specs.Step.{step, stepped}
+use Rattle.machine.specs.Theorems.{accepted-possible, complete, refused-unchanged, sound}
+use Rattle.machine.specs.declared.Stepped.{Stepped}
 use Rattle.theory.specs.Demands.{doneOf}
 use Rattle.theory.specs.FigureSteps.{FigureSteps, Within}
 use Rattle.theory.specs.FigureSteps.FigureSteps.{no-steps, one-step}

@@ -8,7 +8,7 @@ use Rattle.events.specs.Events.{after}
 use Rattle.events.specs.declared.Event.{Event}
 use Rattle.lock.specs.declared.State.{State}
 use Rattle.number.specs.declared.ThreadNo.{ThreadNo}
-use Rattle.step.specs.Demands.{Tool}
+use Rattle.machine.specs.Demands.{Tool}
 use Rattle.theory.specs.Demands.{acceptedAt, doneAt}
 
 -- the list with t behind it, if the test holds
