@@ -5,32 +5,20 @@ use mathlib.Core.Path.{_≡_, ap, refl, sym, _∙_}
 use Prim.Native.Nat.{ℕ, zero, suc, _-_, _≤_, _<_}
 use native.Mathlib.Nat.{le-of-suc-le-suc}
 use native.Mathlib.Omega.{arith}
-use lib.ListN.{List·getD-append, List·getD-eq-default, getD, getD-replicate, length, length-map, length-replicate, length-set, replicate, set}
-use lib.Seq.{getD-set-other, getD-set-same, set-getD, set-out, set-set}
+use lib.ListN.{List·getD-append, getD, getD-replicate, length, length-map, length-replicate, length-set, replicate, set}
+use lib.Seq.{getD-set-other, getD-set-same, set-getD, set-set}
 use Rattle.lock.specs.State.{nth, setNth}
 
 module _ {A : Type 0} (xs : List A) where
-  -- nothing stands at 0 or past the end
+  -- nothing stands at 0
   pub nth-none : (k : ℕ) (d : A) → k ≡ 0 → d ≡ nth xs k d
   nth-none zero d h = refl
   nth-none (suc k) d h = absurd (omega arith)
-
-  pub nth-past : (k : ℕ) (d : A) → length xs < k → d ≡ nth xs k d
-  nth-past zero d h = refl
-  nth-past (suc k) d h = sym (List·getD-eq-default xs d (le-of-suc-le-suc h))
 
   -- number k stands at place k - 1
   pub nth-in : (k : ℕ) (d : A) → k ≢ 0 → getD xs (k - 1) d ≡ nth xs k d
   nth-in zero d h = absurd (h refl)
   nth-in (suc k) d h = ap (λ (j : ℕ). getD xs j d) (omega arith)
-
-  pub set-none : (k : ℕ) (v : A) → k ≡ 0 → xs ≡ setNth xs k v
-  set-none zero v h = refl
-  set-none (suc k) v h = absurd (omega arith)
-
-  pub set-past : (k : ℕ) (v : A) → length xs < k → xs ≡ setNth xs k v
-  set-past zero v h = refl
-  set-past (suc k) v h = sym (set-out xs k v (le-of-suc-le-suc h))
 
   pub set-in : (k : ℕ) (v : A) → k ≢ 0 → set xs (k - 1) v ≡ setNth xs k v
   set-in zero v h = absurd (h refl)

@@ -1,11 +1,10 @@
-// The state of the lock, what stands at a thread's or a node's number, the fresh state, and the rule that a state is held to.
-// Rests on `number` and `word`.
+// The state of the lock, the fresh state, and the rule that a state is held to. What a fresh state is made of is `pub`, for the crate
+// that writes one in bytes (`saved`). Rests on `number` and `word`.
 ghost use Prim.Native.Nat.{_≤_};
 ghost use mathlib.Core.Path.{_≡_};
 ghost use Rattle.number.specs.Sizes.{mostThreads};
-ghost use Rattle.lock.specs.Fresh.{fresh as freshOf, freshShared, idleTo, inSize};
-ghost use Rattle.lock.specs.Places.{inTable, kept, placeOf, seen};
-ghost use Rattle.lock.specs.State.{_⟨node_≔_⟩, _⟨thread_≔_⟩, nodeAt, threadAt, zeroNode, zeroState, zeroThread};
+ghost use Rattle.lock.specs.Fresh.{fresh as freshOf, freshShared, idle, idleTo, inSize};
+ghost use Rattle.lock.specs.State.{_⟨line≔_⟩, zeroNode, zeroState, zeroThread};
 ghost use Rattle.lock.specs.Valid.{nodeInRange, nodeIsZero, nodesValid, pickUpTo, sharedValid, threadInRange, threadIsZero, threadsValid};
 ghost use Rattle.lock.specs.Valid.{valid as validOf};
 use number::BAD_SIZE;
@@ -18,7 +17,6 @@ use number::MOST_NODES;
 use number::MOST_THREADS;
 use number::NodeNo;
 use number::Place;
-use number::ThreadNo;
 
 // A queue node.
 pub struct Node {
@@ -64,7 +62,7 @@ pub struct Opened {
 
 // ---- zeros
 
-fn zero_node() -> Node
+pub fn zero_node() -> Node
     ensures { λ r. ⌜ r ≡ zeroNode ⌝ }
 {
     Node {
@@ -73,17 +71,24 @@ fn zero_node() -> Node
     }
 }
 
-fn zero_thread() -> Thread
-    ensures { λ r. ⌜ r ≡ zeroThread ⌝ }
+// A thread at a line, with every other number 0.
+fn thread_at_line(line: u8) -> Thread
+    ensures { λ r. ⌜ r ≡ zeroThread ⟨line≔ line ⟩ ⌝ }
 {
     Thread {
-        line: 0,
+        line,
         my: NodeNo(0),
         prev: NodeNo(0),
         succ: NodeNo(0),
         nxmy: NodeNo(0),
         slot: Place(0),
     }
+}
+
+fn zero_thread() -> Thread
+    ensures { λ r. ⌜ r ≡ zeroThread ⌝ }
+{
+    thread_at_line(0)
 }
 
 pub fn zero_state() -> State
@@ -108,110 +113,6 @@ pub fn zero_state() -> State
     }
 }
 
-// ---- a place of a table, for a program that reads and stores where the state stands and hands no state on
-
-// The number is 1 to 32.
-fn in_table(number: u8) -> bool
-    ensures { λ r. ⌜ r ≡ inTable number ⌝ }
-{
-    (1 <= number) & (number <= MOST_NODES)
-}
-
-// The place of a number; it lies in the table whatever the number is.
-fn place_of(number: u8) -> usize
-    ensures { λ r. ⌜ r ≡ placeOf number ⌝ }
-{
-    (number as usize + (MOST_NODES - 1) as usize) % MOST_NODES as usize
-}
-
-pub fn thread_place(t: ThreadNo) -> usize
-    ensures { λ r. ⌜ r ≡ placeOf (t .0) ⌝ }
-{
-    place_of(t.0)
-}
-
-pub fn node_place(k: NodeNo) -> usize
-    ensures { λ r. ⌜ r ≡ placeOf (k .0) ⌝ }
-{
-    place_of(k.0)
-}
-
-// What is seen at a number, by what stood at its place: zeros where the number is not in the table.
-pub fn thread_seen(t: ThreadNo, stood: Thread) -> Thread
-    ensures { λ r. ⌜ r ≡ seen (t .0) stood zeroThread ⌝ }
-{
-    if in_table(t.0) {
-        return stood;
-    }
-    zero_thread()
-}
-
-pub fn node_seen(k: NodeNo, stood: Node) -> Node
-    ensures { λ r. ⌜ r ≡ seen (k .0) stood zeroNode ⌝ }
-{
-    if in_table(k.0) {
-        return stood;
-    }
-    zero_node()
-}
-
-// What is stored at a number's place: the new value, or what stood there where the number is not in the table.
-pub fn thread_kept(t: ThreadNo, stood: Thread, v: Thread) -> Thread
-    ensures { λ r. ⌜ r ≡ kept (t .0) stood v ⌝ }
-{
-    if in_table(t.0) {
-        return v;
-    }
-    stood
-}
-
-pub fn node_kept(k: NodeNo, stood: Node, v: Node) -> Node
-    ensures { λ r. ⌜ r ≡ kept (k .0) stood v ⌝ }
-{
-    if in_table(k.0) {
-        return v;
-    }
-    stood
-}
-
-// ---- what stands at a number; zeros where there is no such place, and nothing is stored there
-
-pub fn thread_of(s: State, t: ThreadNo) -> Thread
-    ensures { λ r. ⌜ r ≡ threadAt s t ⌝ }
-{
-    let at = thread_place(t);
-    let stood = s.thread[at];
-    thread_seen(t, stood)
-}
-
-pub fn with_thread(s: State, t: ThreadNo, v: Thread) -> State
-    ensures { λ r. ⌜ r ≡ s ⟨thread t ≔ v ⟩ ⌝ }
-{
-    let at = thread_place(t);
-    let stood = s.thread[at];
-    let mut changed = s;
-    changed.thread[at] = thread_kept(t, stood, v);
-    changed
-}
-
-pub fn node_of(s: State, k: NodeNo) -> Node
-    ensures { λ r. ⌜ r ≡ nodeAt s k ⌝ }
-{
-    let at = node_place(k);
-    let stood = s.node[at];
-    node_seen(k, stood)
-}
-
-pub fn with_node(s: State, k: NodeNo, v: Node) -> State
-    ensures { λ r. ⌜ r ≡ s ⟨node k ≔ v ⟩ ⌝ }
-{
-    let at = node_place(k);
-    let stood = s.node[at];
-    let mut changed = s;
-    changed.node[at] = node_kept(k, stood, v);
-    changed
-}
-
 // ---- the fresh state
 
 // T and K are 1 to 32.
@@ -221,13 +122,19 @@ pub fn in_size(threads: u8, nodes: u8) -> bool
     (1 <= threads) & (threads <= MOST_THREADS) & (1 <= nodes) & (nodes <= MOST_NODES)
 }
 
+// A thread of a fresh state.
+pub fn idle_thread() -> Thread
+    ensures { λ r. ⌜ r ≡ idle ⌝ }
+{
+    thread_at_line(FIRST_LINE)
+}
+
 // The first `threads` threads at line 11, and 0 in every other place.
 fn idle_threads(threads: u8) -> [Thread; MOST_THREADS as usize]
     requires { ⌜ threads ≤ mostThreads ⌝ }
     ensures { λ r. ⌜ r ≡ idleTo threads ⌝ }
 {
-    let mut idle = zero_thread();
-    idle.line = FIRST_LINE;
+    let idle = idle_thread();
     let mut all = [zero_thread(); MOST_THREADS as usize];
     let n = threads as usize;
     let mut i = 0;
@@ -239,7 +146,7 @@ fn idle_threads(threads: u8) -> [Thread; MOST_THREADS as usize]
 }
 
 // The shared numbers of a fresh state.
-fn fresh_shared(threads: u8, nodes: u8) -> Shared
+pub fn fresh_shared(threads: u8, nodes: u8) -> Shared
     ensures { λ r. ⌜ r ≡ freshShared threads nodes ⌝ }
 {
     Shared {

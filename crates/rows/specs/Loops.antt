@@ -1,5 +1,5 @@
 -- The laws of loops over records, for every kind: a turn that judges one record more, that reads one more into a table, and that writes one more.
--- Each follows from how the definitions go on by one record at the end. Assumes nothing.
+-- Each follows from how the definitions go on by one record at the end. And that equal records are copies of one. Assumes nothing.
 use mathlib.Core.Bool.{Bool, and-assoc, and-true, _&&_}
 use mathlib.Core.List.{List, [], _∷_, _++_, append-assoc, append-nil}
 use mathlib.Core.Path.{_≡_, ap, refl, sym, _∙_}
@@ -7,9 +7,9 @@ use Prim.Native.Nat.{ℕ, zero, suc, _+_, _*_, _≤_, _<_}
 use native.Mathlib.Nat.{le-of-lt, mul-suc, mul-zero}
 use native.Mathlib.Numerals.{add-one}
 use native.Mathlib.Omega.{arith}
-use lib.ListN.{drop, getD, length, length-append, set, take}
+use lib.ListN.{drop, getD, length, length-append, replicate, set, take}
 use lib.Seq.{drop-drop, length-take-le, sets, take-suc}
-use Rattle.rows.specs.Rows.{Kind, Lawful, allGood, good, laid, values}
+use Rattle.rows.specs.Rows.{Kind, Lawful, allGood, good, laid, times, values}
 use Rattle.rows.specs.Stored.{set-behind, sets-append}
 
 module _ {A : Type 0} (kind : Kind A) where
@@ -65,6 +65,12 @@ module _ {A : Type 0} (kind : Kind A) where
   unfolding laid
   laid-append [] ys = refl
   laid-append (x ∷ xs) ys = rw (laid-append xs ys, append-assoc)
+
+  -- The records of a table whose first n elements are v are n times the bytes of v.
+  pub laid-same : (n : ℕ) (v : A) (xs : List A) → laid kind (take n (replicate n v ++ xs)) ≡ times n (kind .bytes v)
+  unfolding laid times
+  laid-same zero v xs = refl
+  laid-same (suc n) v xs = ap (λ (l : List ℕ). kind .bytes v ++ l) (laid-same n v xs)
 
   -- A turn of the loop that writes records.
   pub put-more : Lawful kind → (o : List ℕ) (at i : ℕ) (xs : List A) (d : A) → i < length xs

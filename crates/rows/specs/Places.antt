@@ -1,19 +1,18 @@
--- What stands at a place: a mark; and among records, counted from 0, the value of record i, that all are good exactly if each one is, what lies past
--- the first i, and the bytes with record i changed. By induction over the records. Assumes nothing.
+-- What stands at a place: a mark; and among records, counted from 0, the value of record i, that all are good exactly if each one is, and what lies
+-- past the first i. By induction over the records. Assumes nothing.
 use mathlib.Core.Bool.{true, _&&_}
-use mathlib.Core.List.{List, _∷_, _++_, append-assoc}
+use mathlib.Core.List.{List}
 use mathlib.Core.Path.{_≡_, ap, refl, sym, _∙_}
 use Prim.Native.Nat.{ℕ, zero, suc, _+_, _*_, _≤_, _<_}
-use native.Mathlib.Nat.{add-zero, le-of-lt, le-of-suc-le-suc, mul-zero}
+use native.Mathlib.Nat.{add-zero, le-of-suc-le-suc, mul-zero}
 use native.Mathlib.Omega.{arith}
 use lib.Dec.{eqb}
-use lib.ListN.{drop, getD, length, length-append, set, take, take-append-drop}
-use lib.Seq.{drop-at, drop-drop, getD-drop, set-split, sets, split-at}
+use lib.ListN.{drop, getD, length, take, take-append-drop}
+use lib.Seq.{drop-at, drop-drop, getD-drop}
 use borrow.Author.Tests.{eq-eqb, eqb-true}
 use Rattle.number.specs.Tests.{both-hold, first-holds, second-holds}
 use Rattle.rows.specs.Loops.{laid-append, length-laid-front, past-more}
 use Rattle.rows.specs.Rows.{Kind, Lawful, MarkAt, allGood, good, laid, marked, values}
-use Rattle.rows.specs.Stored.{sets-part}
 
 -- ---- a mark
 module _ (b : List ℕ) (place first second : ℕ) where
@@ -62,28 +61,6 @@ module _ {A : Type 0} (kind : Kind A) where
       ap (λ ys. drop (kind .width * i) (laid kind ys)) (sym (take-append-drop i xs))
       ∙ rw (laid-append kind (take i xs) (drop i xs))
       (drop-at (laid kind (take i xs)) (laid kind (drop i xs)) (kind .width * i) (length-laid-front kind lawful i xs h))
-
-  -- the bytes of one record, between what lies before it and what lies behind it
-  laid-around : (front back : List ℕ) (xs : List A) (x : A) (ys : List A)
-      → front ++ laid kind (xs ++ x ∷ ys) ++ back ≡ (front ++ laid kind xs) ++ (kind .bytes x ++ (laid kind ys ++ back))
-  unfolding laid
-  laid-around front back xs x ys = rw (laid-append kind xs (x ∷ ys)) (simp append-assoc)
-
-  -- Storing the bytes of v over record i gives the bytes of the same records with v in place i.
-  pub laid-set : Lawful kind → (front back : List ℕ) (xs : List A) (i : ℕ) (v : A) → i < length xs
-      → sets (front ++ laid kind xs ++ back) (length front + kind .width * i) (kind .bytes v) ≡ front ++ laid kind (set xs i v) ++ back
-  laid-set lawful front back xs i v h =
-      let at : ℕ = length front + kind .width * i in
-      let before : List A = take i xs in
-      let behind : List A = drop (suc i) xs in
-      let x : A = getD xs i v in
-      let there : length (front ++ laid kind before) ≡ at =
-      length-append front (laid kind before) ∙ omega (arith, length-laid-front kind lawful i xs (le-of-lt h)) in
-      ap (λ (ys : List A). sets (front ++ laid kind ys ++ back) at (kind .bytes v)) (split-at xs i v h)
-      ∙ ap (λ (l : List ℕ). sets l at (kind .bytes v)) (laid-around front back before x behind)
-      ∙ sets-part (front ++ laid kind before) (kind .bytes x) (kind .bytes v) (laid kind behind ++ back) at there (lawful .wide v ∙ sym (lawful .wide x))
-      ∙ sym (laid-around front back before v behind)
-      ∙ ap (λ (ys : List A). front ++ laid kind ys ++ back) (sym (set-split xs i v h))
 
 -- ---- all records of a kind, from a place of b on
 module _ {A : Type 0} (kind : Kind A) (from n : ℕ) (b : List ℕ) where

@@ -17,6 +17,11 @@ Bytes b = (i : ℕ) → getD b i 0 < 256
 abbrev pub over : List ℕ → List ℕ → List ℕ
 over vs o = vs ++ drop (length vs) o
 
+-- n times r, one behind the other
+unfoldable pub times : ℕ → List ℕ → List ℕ
+times zero r = []
+times (suc n) r = r ++ times n r
+
 -- ---- "Each record begins with a two-byte mark in ASCII.": the letters of the marks
 abbrev pub letterL : ℕ
 letterL = 76

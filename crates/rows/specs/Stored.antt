@@ -2,13 +2,13 @@
 -- By induction over what is stored. Assumes nothing.
 use mathlib.Core.List.{List, [], _∷_, _++_, append-assoc, append-nil}
 use mathlib.Core.Path.{_≡_, ap, sym, _∙_}
-use Prim.Native.Nat.{ℕ, suc, _+_, _-_, _≤_, _<_}
-use native.Mathlib.Nat.{le-of-lt, zero-add}
+use Prim.Native.Nat.{ℕ, zero, suc, _+_, _-_, _*_, _≤_, _<_}
+use native.Mathlib.Nat.{le-of-lt, mul-le-mul-left, mul-suc, mul-zero, zero-add}
 use native.Mathlib.Numerals.{add-one}
 use native.Mathlib.Omega.{arith}
 use lib.ListN.{List·getD-append, drop, drop-of-length-le, getD, length, length-append, set, take}
-use lib.Seq.{append-snoc, drop-at, drop-cons, getD-append-add, getD-drop, length-take-le, set-at, sets, sets-eq, take-at, take-suc}
-use Rattle.rows.specs.Rows.{over}
+use lib.Seq.{append-snoc, drop-cons, getD-append-add, getD-drop, length-take-le, set-at, sets, sets-eq, take-suc}
+use Rattle.rows.specs.Rows.{over, times}
 
 -- Storing p and then q behind it is storing both.
 pub sets-append : (o : List ℕ) (at : ℕ) (p q : List ℕ) → sets o at (p ++ q) ≡ sets (sets o at p) (at + length p) q
@@ -22,19 +22,31 @@ sets-over vs o h =
     let z : 0 + length vs ≤ length o = omega arith in
     rw (sets-eq vs o 0 z, zero-add (length vs))
 
--- What is stored over a part of its own length takes the place of that part.
-pub sets-part : (p q q′ r : List ℕ) (at : ℕ) → length p ≡ at → length q′ ≡ length q → sets (p ++ (q ++ r)) at q′ ≡ p ++ (q′ ++ r)
-sets-part p q q′ r at l e =
-    let room : at + length q′ ≤ length (p ++ (q ++ r)) = simp length-append (omega arith) in
-    let behind : length (p ++ q) ≡ at + length q′ = length-append p q ∙ omega arith in
-    rw (sets-eq q′ (p ++ (q ++ r)) at room, take-at p (q ++ r) at l, ← append-assoc p q r, drop-at (p ++ q) r (at + length q′) behind)
-    (append-assoc p q′ r)
-
 -- A turn of the loop that stores bytes: one byte more of r stands from `at` on.
 pub byte-more : (o : List ℕ) (at i : ℕ) (r : List ℕ) → i < length r → set (sets o at (take i r)) (at + i) (getD r i 0) ≡ sets o at (take (i + 1) r)
 byte-more o at i r h =
     let l : length (take i r) ≡ i = length-take-le i r (le-of-lt h) in
     rw (add-one i, take-suc r i 0 h, sets-append o at (take i r) (getD r i 0 ∷ []), l)
+
+-- ---- copies of r
+module _ (r : List ℕ) where
+  length-times : (n : ℕ) → length (times n r) ≡ length r * n
+  unfolding times
+  length-times zero = sym (mul-zero (length r))
+  length-times (suc n) = length-append r (times n r) ∙ omega (arith, length-times n, mul-suc (length r) n)
+
+  times-more : (n : ℕ) → times (suc n) r ≡ times n r ++ r
+  unfolding times
+  times-more zero = append-nil r
+  times-more (suc n) = ap (λ (l : List ℕ). r ++ l) (times-more n) ∙ sym (append-assoc r (times n r) r)
+
+  -- A turn of the loop that stores copies: one more stands behind the first i.
+  pub copy-more : (o : List ℕ) (at i : ℕ) → sets (sets o at (times i r)) (at + length r * i) r ≡ sets o at (times (i + 1) r)
+  copy-more o at i = rw (add-one i, times-more i, sets-append o at (times i r) r, length-times i)
+
+  -- Copy i of n ends where the copies end, or before.
+  pub copy-fits : (i n : ℕ) → i < n → length r * i + length r ≤ length r * n
+  copy-fits i n h = rw (← mul-suc (length r) i) (mul-le-mul-left (length r) h)
 
 -- ---- vs over o
 module _ (vs o : List ℕ) where

@@ -1,18 +1,18 @@
-// Saved states: `read` and `save`. In this order: places, the record at the start of a slice, judging, reading, reading a part, the
-// bytes of a record, writing, writing a part. A saved state is a header, a record for each node and a record for each thread, one after
-// the other. Readers work on the record at the start of a slice, and encoders give an array, so that neither knows a place: `rest`
-// gives the part of a slice from a place on, and `rows::put` stores bytes from a place on. Parts serve the step over a saved state that
-// is lent: it judges the bytes by `good`, reads and writes only the header, one node and one thread, and holds no state. Rests on
-// `number`, `lock` and `rows`.
+// Saved states: `read` and `save`. In this order: places, the record at the start of a slice, judging, reading, the bytes of a record,
+// writing. A saved state is a header, a record for each node and a record for each thread, one after the other. Readers work on the
+// record at the start of a slice, and encoders give an array, so that neither knows a place: `rest` gives the part of a slice from a
+// place on, and `rows::put` stores bytes from a place on. Calls by value that work on bytes lay their state into a buffer by `laid` and
+// take it up again by `state_in`; `put_fresh` writes the fresh state with no state by value. Rests on `number`, `lock` and `rows`.
 ghost use Prim.Native.Nat.{_*_, _+_, _-_, _<_, _≤_};
 ghost use mathlib.Core.Bool.{true};
 ghost use mathlib.Core.Path.{_≡_};
 ghost use lib.ListN.{drop, length};
 ghost use lib.Seq.{sets};
-ghost use Rattle.lock.specs.State.{_⟨node_≔_⟩, _⟨shared≔_⟩, _⟨thread_≔_⟩, nodeAt, threadAt};
+ghost use Rattle.lock.specs.Fresh.{freshState, inSize};
+ghost use Rattle.lock.specs.Valid.{valid};
 ghost use Rattle.number.specs.Sizes.{mostNodes, mostThreads};
 ghost use Rattle.rows.specs.Rows.{allGood, good as goodRecord, letterL, marked as markedBy, over};
-ghost use Rattle.saved.specs.Inner.{Holds, Room, noRecord, recordOver, withNodes, withThreads};
+ghost use Rattle.saved.specs.Inner.{LaidIn, Room, withNodes, withThreads};
 ghost use Rattle.saved.specs.Saved.{bytesOf, fourAt, fourBytes, headerBytes, headerIn, headerWidth, nodeBytes, nodeIn};
 ghost use Rattle.saved.specs.Saved.{nodeRecord, nodeWidth, nodesBytes, read as readOf, saveNumber, savedGood, savedOver};
 ghost use Rattle.saved.specs.Saved.{size as sizeFor, stateIn, threadBytes, threadIn, threadRecord, threadWidth, threadsBytes};
@@ -27,7 +27,6 @@ use number::DONE;
 use number::NodeNo;
 use number::Place;
 use number::TOO_SHORT;
-use number::ThreadNo;
 
 // How many bytes each kind of record has.
 const HEADER_WIDTH: usize = 23;
@@ -35,6 +34,9 @@ const HEADER_WIDTH: usize = 23;
 const NODE_WIDTH: usize = 4;
 
 const THREAD_WIDTH: usize = 11;
+
+// No saved state has more bytes (`saved-size`).
+pub const MOST_SAVED: usize = 503;
 
 // ---- places
 
@@ -46,7 +48,7 @@ fn threads_place(nodes: u8) -> usize
 }
 
 // How many bytes a saved state has.
-fn size(threads: u8, nodes: u8) -> usize
+pub fn size(threads: u8, nodes: u8) -> usize
     ensures { λ r. ⌜ r ≡ sizeFor threads nodes ⌝ }
 {
     HEADER_WIDTH + NODE_WIDTH * (nodes as usize) + THREAD_WIDTH * (threads as usize)
@@ -231,7 +233,7 @@ fn with_threads(s: State, b: &[u8]) -> State
 }
 
 // The state that a good file holds; 0 in every place past T or K.
-fn state_in(b: &[u8]) -> State
+pub fn state_in(b: &[u8]) -> State
     requires { ⌜ savedGood (now b) ≡ true ⌝ }
     ensures { λ r. ⌜ r ≡ stateIn (now (b .entry)) ⌝ }
 {
@@ -260,62 +262,6 @@ pub fn read(bytes: &[u8]) -> Opened
         number: BAD_STATE,
         state,
     }
-}
-
-// ---- reading a part of a good file
-
-// There is no record k among n; records are counted from 1.
-fn no_record(n: u8, k: u8) -> bool
-    ensures { λ r. ⌜ r ≡ noRecord n k ⌝ }
-{
-    (k == 0) | (n < k)
-}
-
-// The shared numbers of the state that the bytes hold.
-pub fn shared_of(bytes: &[u8]) -> Shared
-    requires { ⌜ savedGood (now bytes) ≡ true ⌝ }
-    ensures { λ r. ⌜ r ≡ stateIn (now (bytes .entry)) .shared ⌝ }
-{
-    header_in(bytes)
-}
-
-// Node k of the state that the bytes hold; zeros where there is no such node.
-pub fn node_of(bytes: &[u8], k: NodeNo) -> Node
-    requires { ⌜ savedGood (now bytes) ≡ true ⌝ }
-    ensures { λ r. ⌜ r ≡ nodeAt (stateIn (now (bytes .entry))) k ⌝ }
-{
-    let sh = header_in(bytes);
-    let n = k.0;
-    if no_record(sh.nodes, n) {
-        return Node {
-            next: NodeNo(0),
-            locked: 0,
-        };
-    }
-    node_in(rest(bytes, HEADER_WIDTH + NODE_WIDTH * ((n - 1) as usize)))
-}
-
-// Thread t of the state that the bytes hold; zeros where there is no such thread.
-pub fn thread_of(bytes: &[u8], t: ThreadNo) -> Thread
-    requires { ⌜ savedGood (now bytes) ≡ true ⌝ }
-    ensures { λ r. ⌜ r ≡ threadAt (stateIn (now (bytes .entry))) t ⌝ }
-{
-    let sh = header_in(bytes);
-    let n = t.0;
-    if no_record(sh.threads, n) {
-        return Thread {
-            line: 0,
-            my: NodeNo(0),
-            prev: NodeNo(0),
-            succ: NodeNo(0),
-            nxmy: NodeNo(0),
-            slot: Place(0),
-        };
-    }
-    thread_in(rest(
-        bytes,
-        threads_place(sh.nodes) + THREAD_WIDTH * ((n - 1) as usize),
-    ))
 }
 
 // ---- the bytes of a record
@@ -446,42 +392,25 @@ pub fn save(s: State, out: &mut [u8]) -> u8
     answer
 }
 
-// ---- writing a part of a good file
-
-// r over record k of the n records, each as long as r, that stand from a place on; nothing where there is no such record.
-fn put_record(out: &mut [u8], from: usize, n: u8, k: u8, r: &[u8])
-    requires { ⌜ from + length (now r) * n ≤ length (now out) ⌝ }
-    ensures { λ _. ⌜ now (out .exit) ≡ recordOver (now (out .entry)) from n k (now (r .entry)) ⌝ }
+// The bytes of s at the start of a buffer with room for any saved state.
+pub fn laid(s: State) -> [u8; MOST_SAVED]
+    requires { ⌜ valid s ≡ true ⌝ }
+    ensures { λ r. ⌜ LaidIn s r ⌝ }
 {
-    if no_record(n, k) {
-        return;
-    }
-    rows::put(out, from + r.len() * ((k - 1) as usize), r);
+    let mut bytes = [0u8; MOST_SAVED];
+    put_state(s, &mut bytes);
+    bytes
 }
 
-// The shared numbers, node k and thread t put back; every other byte stays as it is.
-pub fn put_window(
-    bytes: &mut [u8],
-    shared: Shared,
-    k: NodeNo,
-    node: Node,
-    t: ThreadNo,
-    thread: Thread,
-)
-    requires { ⌜ Holds (now bytes) shared ⌝ }
-    ensures { λ _. ⌜ now (bytes .exit)
-        ≡ bytesOf (stateIn (now (bytes .entry)) ⟨shared≔ shared ⟩ ⟨node k ≔ node ⟩ ⟨thread t ≔ thread ⟩) ⌝ }
+// The saved fresh state of T threads and K nodes at the start of out.
+pub fn put_fresh(threads: u8, nodes: u8, out: &mut [u8])
+    requires { ⌜ (inSize threads nodes ≡ true) × (sizeFor threads nodes ≤ length (now out)) ⌝ }
+    ensures { λ _. ⌜ now (out .exit) ≡ over (bytesOf (freshState threads nodes)) (now (out .entry)) ⌝ }
 {
-    let header = header_bytes(shared);
-    let of_node = node_bytes(node);
-    let of_thread = thread_bytes(thread);
-    rows::put(bytes, 0, &header);
-    put_record(bytes, HEADER_WIDTH, shared.nodes, k.0, &of_node);
-    put_record(
-        bytes,
-        threads_place(shared.nodes),
-        shared.threads,
-        t.0,
-        &of_thread,
-    );
+    let header = header_bytes(lock::fresh_shared(threads, nodes));
+    let node = node_bytes(lock::zero_node());
+    let thread = thread_bytes(lock::idle_thread());
+    rows::put(out, 0, &header);
+    rows::put_times(out, HEADER_WIDTH, &node, nodes);
+    rows::put_times(out, threads_place(nodes), &thread, threads);
 }

@@ -16,33 +16,15 @@ Inv-loop threads idle all₀ n i₀ all i = (i ≤ threads) × (all ≡ idleTo i
 abbrev μ-loop : tie.MeasureT-loop
 μ-loop threads idle all₀ n i₀ all i = threads - i
 
-zero-thread-requires : tie.Need-zero-thread-requires Inv-loop μ-loop
-zero-thread-requires c κs = search needs
-
-zero-thread-requires-2 : tie.Need-zero-thread-requires-2 Inv-loop μ-loop
-zero-thread-requires-2 c κs = search needs
-
 loop-holds : tie.Need-loop-holds Inv-loop μ-loop
 unfolding idleTo
-loop-holds c = (search needs, simp (c .zero-thread2 .ensures))
-
-mul-all : tie.Need-mul-all Inv-loop μ-loop
-mul-all c = search needs
-
-array-set-from-all : tie.Need-array-set-from-all Inv-loop μ-loop
-array-set-from-all c = search needs
-
-add-i : tie.Need-add-i Inv-loop μ-loop
-add-i c = search needs
-
-loop-less : tie.Need-loop-less Inv-loop μ-loop
-loop-less c = search needs
+loop-holds c = (search needs, simp (c .zero-thread .ensures))
 
 loop-again : tie.Need-loop-again Inv-loop μ-loop
 unfolding idleTo
 loop-again c =
     let l = c .before .loop in
-    (omega arith, rw (c .before .before .before .zero-thread .ensures, l .inv .1) (fill-more idle zeroThread tableSize (l .i) (omega arith)))
+    (omega arith, rw (c .before .before .before .idle-thread .ensures, l .inv .1) (fill-more idle zeroThread tableSize (l .i) (omega arith)))
 
 returns : tie.Need-returns Inv-loop μ-loop
 returns c =
@@ -55,12 +37,12 @@ idle-threads-spec =
     (tie.spec
     Inv-loop
     μ-loop
-    zero-thread-requires
-    zero-thread-requires-2
+    (λ c κs. search needs)
+    (λ c κs. search needs)
     loop-holds
-    mul-all
-    array-set-from-all
-    add-i
-    loop-less
+    (λ c. search needs)
+    (λ c. search needs)
+    (λ c. search needs)
+    (λ c. search needs)
     loop-again
     returns)

@@ -3,22 +3,10 @@
 use mathlib.Core.Path.{_≡_, sym, _∙_}
 use borrow.Author.Needs.{needs}
 use borrow.Author.Tests.{eq-eqb, ne-eqb}
-use Rattle.saved.specs.Proof.Save.{room}
+use Rattle.saved.specs.Proof.Save.{passed, room}
 use Rattle.saved.specs.Saved.{saveNumber, savedOver}
 use Rattle.saved.proofs.save.Statement.{statement}
 use Rattle.saved.proofs.save.Tie as tie
-
-valid-requires : tie.Need-valid-requires
-valid-requires c κs = search needs
-
-size-requires : tie.Need-size-requires
-size-requires c κs = search needs
-
-first-requires : tie.Need-first-requires
-first-requires c κs = search needs
-
-first-requires-2 : tie.Need-first-requires-2
-first-requires-2 c κs = search needs
 
 -- the answer is the number
 answered : (c : tie.After-first2) → let a = c .before .before .before .before .before .args in c .first2 .result ≡ saveNumber (a .s) (a .out .now)
@@ -28,11 +16,8 @@ answered c =
 
 put-state-requires : tie.Need-put-state-requires
 put-state-requires c κs =
-    let found = c .before .before in
-    room _ _ (sym (answered found) ∙ c .before .if1 .taken)
-
-same-length : tie.Need-same-length
-same-length c = search needs
+    let p = passed _ _ (sym (answered (c .before .before)) ∙ c .before .if1 .taken) in
+    room _ _ (p .0) (p .1)
 
 returns : tie.Need-returns
 unfolding savedOver
@@ -52,11 +37,11 @@ pub save-spec : {M : Type 1} → statement M
 save-spec =
     tie.close
     (tie.spec
-    valid-requires
-    size-requires
-    first-requires
-    first-requires-2
+    (λ c κs. search needs)
+    (λ c κs. search needs)
+    (λ c κs. search needs)
+    (λ c κs. search needs)
     put-state-requires
-    same-length
+    (λ c. search needs)
     returns
     returns-2)

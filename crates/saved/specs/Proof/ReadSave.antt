@@ -22,7 +22,7 @@ use Rattle.saved.specs.Proof.Records.{header-lawful, node-lawful, thread
 use Rattle.saved.specs.Proof.Size.{length-bytes, length-nodes}
 use Rattle.saved.specs.Proof.Tables.{front-in, front-zeros}
 use Rattle.saved.specs.Saved.{bytesOf, goodBy, goodTests, headerIn, headerWidth, nodeRecord, nodeWidth, nodesBytes, read}
-use Rattle.saved.specs.Saved.{savedGood, stateBy, tableIn, threadRecord, threadsBytes, threadsPlace}
+use Rattle.saved.specs.Saved.{savedGood, stateBy, stateIn, tableIn, threadRecord, threadsBytes, threadsPlace}
 
 -- ---- the records of the first n elements of a table
 module _ {A : Type 0} (kind : Kind A) (lawful : Lawful kind) (n : ℕ) (xs : List A) (r : List ℕ) where
@@ -108,8 +108,14 @@ module _ (s : State) (v : Valid s) where
   unfolding stateBy
   state-same = λ i. record { shared = s .shared; node = nodes-same i; thread = threads-same i }
 
+  -- So they are a good file of the numbers that their header says, and hold the state ..
+  pub good-bytes : savedGood (bytesOf s) ≡ true
+  good-bytes = ap (λ (sh : Shared). goodBy sh (bytesOf s)) header-same ∙ good-same
+
+  pub held-bytes : stateIn (bytesOf s) ≡ s
+  held-bytes = ap (λ (sh : Shared). stateBy sh (bytesOf s)) header-same ∙ state-same
+
+  -- .. as which they are read.
   pub read-save : read (bytesOf s) ≡ opened done s
   unfolding read
-  read-save =
-      let good : savedGood (bytesOf s) ≡ true = ap (λ (sh : Shared). goodBy sh (bytesOf s)) header-same ∙ good-same in
-      rw (good, ap (λ (sh : Shared). stateBy sh (bytesOf s)) header-same ∙ state-same)
+  read-save = rw (good-bytes, held-bytes)

@@ -1,5 +1,5 @@
--- What the number of a save says, and what is written by it. Each of its two tests says what its condition says (FirstThat, crate `number`; Judged,
--- crate `lock`). Assumes nothing.
+-- What the number of a save says, and what is written by it; and that a state that passes its test has room. Each of the two tests says what its condition
+-- says (FirstThat, crate `number`; Judged, crate `lock`). Assumes nothing.
 use mathlib.Core.Bool.{true}
 use mathlib.Core.List.{List}
 use mathlib.Core.Logic.{_≢_, _↔_}
@@ -20,16 +20,16 @@ use Rattle.saved.specs.Inner.{Room}
 use Rattle.saved.specs.Saved.{bytesOf, saveConditions, saveNumber, saveRefusals, savedOver, sizeOf}
 
 module _ (s : State) (out : List ℕ) where
-  -- ---- 0: the state passes its test, and the output is long enough; so there is room
-  passed : saveNumber s out ≡ done → (valid s ≡ true) × (sizeOf s ≤ length out)
+  -- ---- a state that passes its test has room in an output that is long enough
+  pub room : valid s ≡ true → sizeOf s ≤ length out → Room s out
+  room h long =
+      let range = shared-rule (s .shared) (state-passed s h .shared) in
+      record { nodes = range .nodes .to; threads = range .threads .to; long = long }
+
+  -- ---- 0: the state passes its test, and the output is long enough
+  pub passed : saveNumber s out ≡ done → (valid s ≡ true) × (sizeOf s ≤ length out)
   unfolding saveNumber
   passed h = let off = none-holds (saveRefusals s out) (omega arith) h in (not-false _ (off .0), ltb-false _ _ (off .1 .0))
-
-  pub room : saveNumber s out ≡ done → Room s out
-  room h =
-      let p = passed h in
-      let range = shared-rule (s .shared) (state-passed s (p .0) .shared) in
-      record { nodes = range .nodes .to; threads = range .threads .to; long = p .1 }
 
   -- ---- each number exactly when, for a state whose tables have their size
   module _ (sized : Sized s) where
@@ -51,7 +51,8 @@ module _ (s : State) (out : List ℕ) where
     unfolding savedOver
     written h =
         let n : ℕ = sizeOf s in
-        let r = room h in
+        let p = passed h in
+        let r = room (p .0) (p .1) in
         let l : length (bytesOf s) ≡ n = length-bytes s sized (r .nodes) (r .threads) in
         rw (eq-eqb _ _ h, l) (take-at (bytesOf s) (drop n out) n l, drop-at (bytesOf s) (drop n out) n l)
 
