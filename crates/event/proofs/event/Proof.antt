@@ -1,7 +1,8 @@
 -- `event::event` meets its contract: a saved state is ready for the event of each of its threads (Good). Assumes nothing.
 use borrow.Author.Needs.{needs}
 use mathlib.Core.Path.{_≡_, sym, _∙_}
-use Rattle.event.specs.Proof.Good.{advanced, held, laid, no-thread, ready}
+use Rattle.cells.specs.Proof.Good.{held, laid}
+use Rattle.event.specs.Proof.Good.{advanced, no-thread, ready}
 use Rattle.machine.specs.Step.{noThread}
 use Rattle.rows.specs.Rows.{Bytes}
 use Rattle.saved.specs.Saved.{stateIn}
