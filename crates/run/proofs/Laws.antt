@@ -1,82 +1,49 @@
--- The laws of the run's loop. On its report: what one answer more does to it, and what it is where the row is over. On its state: what the loop's calls give,
--- put into each other, is an event on the state where it stands. Rests on the laws of a row of events (crate `events`, Laws). Assumes nothing.
-use mathlib.Core.Bool.{cond, false, true}
+-- The laws of the run's loop over the bytes of a saved state. Rests on the laws of a row of events (crate `events`, Laws). Assumes nothing.
+use mathlib.Core.Bool.{Bool, cond, false, true}
 use mathlib.Core.List.{List}
-use mathlib.Core.Path.{_≡_, ap, _∙_}
-use Prim.Native.Nat.{ℕ, _+_}
-use native.Mathlib.Nat.{add-zero}
-use lib.ListN.{getD, set}
-use Rattle.acts.specs.declared.Told.{Told}
-use Rattle.events.specs.Laws.{Over}
-use Rattle.events.specs.Row.{executes, goesOn, waits}
-use Rattle.lines.specs.Lines.{followedBy, lineAt, lines, offTable}
-use Rattle.lines.specs.Table.{row-is, rowPlace, rowSeen}
-use Rattle.lines.specs.declared.Line.{Line}
-use Rattle.lines.specs.declared.Window.{Window}
-use Rattle.lock.specs.Places.{kept, placeOf, seen}
-use Rattle.lock.specs.State.{zeroNode, zeroThread}
-use Rattle.lock.specs.declared.Node.{Node}
+use mathlib.Core.Path.{_≡_, ap, subst, sym, _∙_}
+use Prim.Native.Nat.{ℕ, _+_, _-_, _≤_}
+use native.Mathlib.Omega.{arith}
+use lib.ListN.{length}
+use Rattle.events.specs.Laws.{Next, Over, SoFar, goes-on}
+use Rattle.events.specs.Proof.Answers.{on-counts}
+use Rattle.events.specs.Row.{goesOn, waits}
+use Rattle.events.specs.declared.Event.{Event}
 use Rattle.lock.specs.declared.State.{State}
-use Rattle.lock.specs.declared.Thread.{Thread}
-use Rattle.number.specs.Tests.{neither-holds}
-use Rattle.number.specs.declared.NodeNo.{NodeNo}
-use Rattle.number.specs.declared.ThreadNo.{ThreadNo}
-use Rattle.schedule.specs.Schedule.{eventsOf}
-use Rattle.machine.specs.InPlace.{inPlace, inPlaceBy, nodeStood, openedWith, storedBack, toldTo}
-use Rattle.machine.specs.Step.{advance, followed, stepped}
+use Rattle.machine.specs.Demands.{Tool}
+use Rattle.machine.specs.Step.{advance}
 use Rattle.machine.specs.declared.Stepped.{Stepped}
-use Rattle.run.specs.Run.{ran, ranOver, reportOf, reported, tallied}
-use Rattle.run.specs.declared.Report.{Report}
+use Rattle.rows.specs.Rows.{Bytes}
+use Rattle.saved.specs.Proof.SaveRead.{save-read}
+use Rattle.saved.specs.Saved.{bytesOf, savedGood, stateIn}
+use Rattle.schedule.specs.Schedule.{eventsOf}
+use Rattle.run.specs.Run.{ran, ranOver, reportOf, reported}
+use Rattle.run.specs.declared.Ran.{Ran}
 
--- An answer after which the run goes on leaves the stopping number ..
-pub tallied-on : (r : Report) (a : ℕ) → goesOn a ≡ true
-    → tallied r a ≡ reported (r .executed + cond (executes a) 1 0) (r .waited + cond (waits a) 1 0) (r .stop)
-unfolding tallied
-tallied-on r a h = rw h
+-- b is a saved state, and as long as b₀, which it began as
+pub record Stays (b₀ b : List ℕ) : Type 0 where
+  pub good : savedGood b ≡ true
+  pub bytes : Bytes b
+  pub long : length b ≡ length b₀
 
--- .. and one that stops it leaves the counts.
-pub tallied-stop : (r : Report) (a : ℕ) → goesOn a ≡ false → tallied r a ≡ reported (r .executed) (r .waited) a
-unfolding tallied
-tallied-stop r a h =
-    let neither = neither-holds (executes a) (waits a) h in
-    rw (neither .0, neither .1, add-zero (r .executed), add-zero (r .waited))
+-- what an answer adds to a count
+pub at-most-one : (b : Bool) → cond b 1 0 ≤ 1
+at-most-one true = omega arith
+at-most-one false = omega arith
 
--- Where the row is over, the report and the state are the run's.
-pub over-gives : (s : State) (b : List ℕ) {n x w m : ℕ} {s′ : State} → Over advance s (eventsOf b) n s′ x w m → ran (reported x w m) s′ ≡ ranOver s b
+-- one event more that goes on: of i + 1 events so many waited, and all others were executed
+pub one-more : (tool : Tool) (s₀ : State) (es : List Event) {i w : ℕ} {s : State} {r : Stepped} (f : SoFar tool s₀ es i s (i - w) w) → Next tool s₀ es i s r
+    → goesOn (r .answer) ≡ true
+    → let w′ = w + cond (waits (r .answer)) 1 0 in SoFar tool s₀ es (i + 1) (r .state) (i + 1 - w′) w′
+one-more tool s₀ es {i} {w} {s} {r} f next h =
+    let w′ = w + cond (waits (r .answer)) 1 0 in
+    subst (λ (x : ℕ). SoFar tool s₀ es (i + 1) (r .state) x w′) (omega (arith, f .counted, on-counts (r .answer) h)) (goes-on tool s₀ es f next h)
+
+-- where the row is over, the report and the bytes are the run's
+pub over-gives : (b₀ b e : List ℕ) {n x w m : ℕ} → Stays b₀ b → Over advance (stateIn b₀) (eventsOf e) n (stateIn b) x w m
+    → (reported x w m ≡ ranOver (stateIn b₀) e .report) × (b ≡ bytesOf (ranOver (stateIn b₀) e .state))
 unfolding ranOver reportOf
-over-gives s b o = λ i. ran (reported (o .executed i) (o .waited i) (o .stopping i)) (o .end i)
-
--- ---- the state
-
--- What a turn of the loop reads, is told and stores, each in terms of those before it: the thread v at its place, the row r of its line, the node k that the
--- line follows, the window w, what is told, and what is kept of it.
-module _ (s : State) (t : ThreadNo) (n : NodeNo)
-    {at rowAt place : ℕ} {rows : List Line} {v kept-v : Thread} {r : Line} {k : NodeNo} {w : Window} {told : Told} {kept-nd : Node}
-    (at-so : at ≡ placeOf (t .0)) (v-so : v ≡ seen (t .0) (getD (s .thread) at zeroThread) zeroThread)
-    (rows-so : rows ≡ lines) (row-at-so : rowAt ≡ rowPlace (v .line)) (r-so : r ≡ rowSeen (v .line) (getD rows rowAt offTable))
-    (k-so : k ≡ followedBy (r .follow) v) (place-so : place ≡ placeOf (k .0))
-    (w-so : w ≡ openedWith (s .shared) v k (getD (s .node) place zeroNode)) (told-so : told ≡ toldTo t w r k n)
-    (nd-kept : kept-nd ≡ kept (k .0) (getD (s .node) place zeroNode) (told .window .node))
-    (v-kept : kept-v ≡ kept (t .0) (getD (s .thread) at zeroThread) (told .window .thread)) where
-  row-of : r ≡ lineAt (v .line)
-  row-of = r-so ∙ rw (rows-so, row-at-so) (row-is (v .line))
-
-  node-of : k ≡ followed v
-  node-of = k-so ∙ rw row-of
-
-  told-of : told ≡ toldTo t (openedWith (s .shared) v (followed v) (nodeStood s (followed v))) (lineAt (v .line)) (followed v) n
-  told-of = told-so ∙ rw (w-so, place-so, row-of, node-of)
-
-  -- the answer, and the state with what is kept stored at the two places
-  abbrev turned : Stepped
-  turned = stepped (told .answer) (record { shared = told .window .shared; node = set (s .node) place kept-nd; thread = set (s .thread) at kept-v })
-
-  stored-of : turned ≡ stepped (told .answer) (storedBack s t (followed v) (told .window))
-  stored-of = rw (v-kept, nd-kept, at-so, place-so, node-of)
-
-  pub turn-in-place : turned ≡ inPlace s t n
-  unfolding inPlace
-  turn-in-place =
-      stored-of
-      ∙ ap (λ (x : Told). stepped (x .answer) (storedBack s t (followed v) (x .window))) told-of
-      ∙ ap (λ (x : Thread). inPlaceBy s t x n) (v-so ∙ rw at-so)
+over-gives b₀ b e {n} {x} {w} {m} s o =
+    let gives : ran (reported x w m) (stateIn b) ≡ ranOver (stateIn b₀) e =
+    λ i. ran (reported (o .executed i) (o .waited i) (o .stopping i)) (o .end i) in
+    (ap (λ (r : Ran). r .report) gives, sym (save-read b (s .bytes) (s .good)) ∙ ap (λ (r : Ran). bytesOf (r .state)) gives)

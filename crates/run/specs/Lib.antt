@@ -3,5 +3,6 @@
 pub mod Run
 pub mod Conditions
 pub mod Demands
+pub mod Saved
 pub mod Theorems
 pub mod Proof

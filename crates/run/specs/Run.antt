@@ -6,9 +6,8 @@ use Prim.Native.Nat.{ℕ, _+_, min}
 use lib.Dec.{eqb, leb, ltb}
 use lib.ListN.{drop, length}
 use Rattle.events.specs.Events.{answers}
-use Rattle.events.specs.Row.{executed, executes, goesOn, rowAnswers, rowEnd, stopping, upToStop, waited, waits}
+use Rattle.events.specs.Row.{executed, rowAnswers, rowEnd, stopping, upToStop, waited}
 use Rattle.lock.specs.Valid.{valid}
-use Rattle.lock.specs.declared.Shared.{Shared}
 use Rattle.lock.specs.declared.State.{State}
 use Rattle.number.specs.Refused.{Refusal, _if_, badSchedule, badSize, badState, done, firstOf, tooShort}
 use Rattle.rows.specs.Rows.{over}
@@ -21,17 +20,20 @@ use Rattle.run.specs.declared.Report.{Report}
 -- ---- "Refusals 1 to 4 come before the first event and change nothing."
 
 -- 3: "schedule and state differ in T or K"
-abbrev pub differ : Shared → Heading → Bool
-differ sh h = not (eqb (sh .threads) (h .threads)) || not (eqb (sh .nodes) (h .nodes))
+abbrev pub differ : ℕ → ℕ → Heading → Bool
+differ threads nodes h = not (eqb threads (h .threads)) || not (eqb nodes (h .nodes))
 
--- the refusals of a run from state s, over schedule b, with so many bytes for its answers
-abbrev pub refusals : State → List ℕ → ℕ → List Refusal
-refusals s b room =
-    badState if not (valid s)
-    ∷ badSchedule if not (good b)
-    ∷ badSize if differ (s .shared) (headingOf b)
+-- 2 to 4, of schedule b and a state with these T and K, with so many bytes for the answers
+abbrev pub scheduleRefusals : ℕ → ℕ → List ℕ → ℕ → List Refusal
+scheduleRefusals threads nodes b room =
+    badSchedule if not (good b)
+    ∷ badSize if differ threads nodes (headingOf b)
     ∷ tooShort if ltb room (eventsIn b)
     ∷ []
+
+-- the refusals of a run from state s
+abbrev pub refusals : State → List ℕ → ℕ → List Refusal
+refusals s b room = badState if not (valid s) ∷ scheduleRefusals (s .shared .threads) (s .shared .nodes) b room
 
 -- the first that applies, or 0
 unfoldable pub refusal : State → List ℕ → ℕ → ℕ
@@ -48,10 +50,6 @@ ran report s = record { report = report; state = s }
 -- "reports events executed (answer 0), events waited (answer 12) and the stopping number, or 0", of these answers
 unfoldable pub reportOf : List ℕ → Report
 reportOf answers = reported (executed answers) (waited answers) (stopping answers)
-
--- a report with one answer more, that of the event after those it counts
-unfoldable pub tallied : Report → ℕ → Report
-tallied r a = reported (r .executed + cond (executes a) 1 0) (r .waited + cond (waits a) 1 0) (cond (goesOn a) (r .stop) a)
 
 -- the answers to the events of schedule b, one after the other up to and including the stop
 abbrev pub answersOf : State → List ℕ → List ℕ

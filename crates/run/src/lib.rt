@@ -1,15 +1,17 @@
-// A run: the events of a schedule, one after the other, from a state that is judged once; and the unread part of its schedule.
-// Rests on `schedule`, on `lock`, `lines` and `step`, whose window its loop opens, and in specs/ on `events` and `rows`.
-ghost use Prim.Native.Nat.{_<_, _≤_};
-ghost use mathlib.Core.Bool.{true};
+// A run: the events of a schedule, one after the other, in the bytes of a saved state that is judged once; and the unread part of its
+// schedule. A run by value is made in the bytes of its state. Rests on `schedule`, `saved` and `event`, and in specs/ on `events` and `rows`.
+ghost use Prim.Native.Nat.{_-_, _≤_};
+ghost use mathlib.Core.Bool.{cond, true};
 ghost use mathlib.Core.Path.{_≡_};
 ghost use lib.ListN.{drop, length};
 ghost use Rattle.events.specs.Row.{goesOn, waits as isWait};
 ghost use Rattle.rows.specs.Rows.{over};
-ghost use Rattle.run.specs.Run.{answersOf, differ as differOf, ranOver, refusal as refusalOf, reported, run as runOf, runBytes, tallied};
-ghost use Rattle.run.specs.Run.{beforeEvents, onward, unread as unreadOf, unreadFrom, upToEnd};
+ghost use Rattle.number.specs.Refused.{firstOf};
+ghost use Rattle.run.specs.Run.{answersOf, beforeEvents, differ as differOf, onward, ranOver, refusal as refusalOf, reported, run as runOf, runBytes};
+ghost use Rattle.run.specs.Run.{scheduleRefusals, unread as unreadOf, unreadFrom, upToEnd};
+ghost use Rattle.run.specs.Saved.{runLeft};
+ghost use Rattle.saved.specs.Saved.{bytesOf, read, savedGood, stateIn};
 ghost use Rattle.schedule.specs.Schedule.{eventsIn, good, mostBytes};
-use lock::Shared;
 use lock::State;
 use number::BAD_SCHEDULE;
 use number::BAD_SIZE;
@@ -36,38 +38,43 @@ pub struct Ran {
 // ---- refusals 1 to 4
 
 // 3: schedule and state differ in T or K.
-fn differ(sh: Shared, h: Heading) -> bool
-    ensures { λ r. ⌜ r ≡ differOf sh h ⌝ }
+fn differ(threads: u8, nodes: u8, h: Heading) -> bool
+    ensures { λ r. ⌜ r ≡ differOf threads nodes h ⌝ }
 {
-    !(sh.threads == h.threads) | !(sh.nodes == h.nodes)
+    !(threads == h.threads) | !(nodes == h.nodes)
 }
 
-// The first of 1 to 4 that applies, in this order; 0 if none does. Each test can be made of any state and any bytes.
-fn refusal(s: State, schedule: &[u8], room: usize) -> u8
-    ensures { λ r. ⌜ r ≡ refusalOf s (now (schedule .entry)) room ⌝ }
+// The first of 2 to 4 that applies, in this order; 0 if none does. Each test can be made of any bytes.
+fn schedule_refusal(threads: u8, nodes: u8, schedule: &[u8], room: usize) -> u8
+    ensures { λ r. ⌜ r ≡ firstOf (scheduleRefusals threads nodes (now (schedule .entry)) room) ⌝ }
 {
-    let broken = !lock::valid(s);
     let bad = !schedule::good(schedule);
-    let other = differ(s.shared, schedule::heading_of(schedule));
+    let other = differ(threads, nodes, schedule::heading_of(schedule));
     let short = room < schedule::events_in(schedule);
     let r4 = number::first(short, TOO_SHORT, DONE);
     let r3 = number::first(other, BAD_SIZE, r4);
-    let r2 = number::first(bad, BAD_SCHEDULE, r3);
-    number::first(broken, BAD_STATE, r2)
+    number::first(bad, BAD_SCHEDULE, r3)
+}
+
+// The first of 1 to 4 that applies to a run from s.
+fn refusal(s: State, schedule: &[u8], room: usize) -> u8
+    ensures { λ r. ⌜ r ≡ refusalOf s (now (schedule .entry)) room ⌝ }
+{
+    let later = schedule_refusal(s.shared.threads, s.shared.nodes, schedule, room);
+    number::first(!lock::valid(s), BAD_STATE, later)
+}
+
+// The first of 1 to 4 that applies to a run from the state that the bytes hold.
+fn refusal_saved(bytes: &[u8], schedule: &[u8], room: usize) -> u8
+    ensures { λ r. ⌜ r ≡ refusalOf (read (now (bytes .entry)) .state) (now (schedule .entry)) room ⌝ }
+{
+    if saved::good(bytes) {
+        return schedule_refusal(cells::threads(bytes), cells::nodes(bytes), schedule, room);
+    }
+    BAD_STATE
 }
 
 // ---- the report
-
-// No event executed and none waited.
-fn no_events(stop: u8) -> Report
-    ensures { λ r. ⌜ r ≡ reported 0 0 stop ⌝ }
-{
-    Report {
-        executed: 0,
-        waited: 0,
-        stop,
-    }
-}
 
 // The answer is that of an event that waited. No other function knows a wait's number.
 fn waits(answer: u8) -> bool
@@ -83,64 +90,72 @@ pub fn goes_on(answer: u8) -> bool
     (answer == DONE) | waits(answer)
 }
 
-// The report with one answer more.
-fn tally(r: Report, answer: u8) -> Report
-    requires { ⌜ (r .executed < mostBytes) × (r .waited < mostBytes) ⌝ }
-    ensures { λ x. ⌜ x ≡ tallied r answer ⌝ }
+// What one answer more adds to the events that waited.
+fn more_waited(answer: u8) -> u32
+    ensures { λ r. ⌜ r ≡ cond (isWait answer) 1 0 ⌝ }
 {
-    let mut more = r;
-    if answer == DONE {
-        more.executed += 1;
-        return more;
+    if waits(answer) { 1 } else { 0 }
+}
+
+// So many events went on, of which so many waited, and the stopping number.
+fn tallied(taken: usize, waited: u32, stop: u8) -> Report
+    requires { ⌜ (waited ≤ taken) × (taken ≤ mostBytes) ⌝ }
+    ensures { λ r. ⌜ r ≡ reported (taken - waited) waited stop ⌝ }
+{
+    Report {
+        executed: taken as u32 - waited,
+        waited,
+        stop,
     }
-    if waits(answer) {
-        more.waited += 1;
-        return more;
-    }
-    more.stop = answer;
-    more
 }
 
 // ---- the run
 
-// The events of a good schedule, from a state that was judged before, with room for each answer. Each event works on a window over
-// the state where it stands, and stores it back: no state is handed on, so none is copied. A refused event stores back what it saw.
-fn run_events(s: State, schedule: &[u8], answers: &mut [u8]) -> Ran
-    requires { ⌜ (good (now schedule) ≡ true) × (eventsIn (now schedule) ≤ length (now answers)) ⌝ }
-    ensures gives { λ r. ⌜ r ≡ ranOver s (now (schedule .entry)) ⌝ }
-    ensures stores { λ r. ⌜ now (answers .exit) ≡ over (answersOf s (now (schedule .entry))) (now (answers .entry)) ⌝ }
+// The events of a good schedule, on the bytes of a saved state that was judged before, with room for each answer. Each is executed in the
+// bytes where they stand.
+pub fn run_events(b: &mut [u8], schedule: &[u8], answers: &mut [u8]) -> Report
+    requires { ⌜ (savedGood (now b) ≡ true) × (good (now schedule) ≡ true) × (eventsIn (now schedule) ≤ length (now answers)) ⌝ }
+    ensures gives { λ r. ⌜ r ≡ ranOver (stateIn (now (b .entry))) (now (schedule .entry)) .report ⌝ }
+    ensures leaves { λ r. ⌜ now (b .exit) ≡ bytesOf (ranOver (stateIn (now (b .entry))) (now (schedule .entry)) .state) ⌝ }
+    ensures stores { λ r. ⌜ now (answers .exit) ≡ over (answersOf (stateIn (now (b .entry))) (now (schedule .entry))) (now (answers .entry)) ⌝ }
 {
     let n = schedule::events_in(schedule);
-    let rows = lines::table();
-    let mut report = no_events(DONE);
-    let mut state = s;
+    let mut waited: u32 = 0;
     let mut i = 0;
     while i < n {
         let e = schedule::event_at(schedule, i);
-        let at = lock::thread_place(e.thread);
-        let stood = state.thread[at];
-        let thread = lock::thread_seen(e.thread, stood);
-        let row_at = lines::row_place(thread.line);
-        let row = lines::row_seen(thread.line, rows[row_at]);
-        let follow = row.follow;
-        let k = lines::followed(follow, thread);
-        let node_at = lock::node_place(k);
-        let node_stood = state.node[node_at];
-        let w = step::opened(state.shared, thread, k, node_stood);
-        let told = step::tell(e.thread, w, row, k, e.node);
-        let answer = told.answer;
+        let answer = event::event(b, e.thread, e.node);
         answers[i] = answer;
-        report = tally(report, answer);
-        let after = told.window;
-        let shared = after.shared;
-        state.shared = shared;
-        state.node[node_at] = lock::node_kept(k, node_stood, after.node);
-        state.thread[at] = lock::thread_kept(e.thread, stood, after.thread);
         if !goes_on(answer) {
-            return Ran { report, state };
+            return tallied(i, waited, answer);
         }
+        waited += more_waited(answer);
         i += 1;
     }
+    tallied(n, waited, DONE)
+}
+
+// The run from the state that the bytes hold, in these bytes. Refusals 1 to 4 change nothing.
+pub fn run_saved(bytes: &mut [u8], schedule: &[u8], answers: &mut [u8]) -> Report
+    ensures reports { λ r. ⌜ r ≡ runOf (read (now (bytes .entry)) .state) (now (schedule .entry)) (now (answers .entry)) .report ⌝ }
+    ensures leaves { λ r. ⌜ now (bytes .exit) ≡ runLeft (now (bytes .entry)) (now (schedule .entry)) (now (answers .entry)) ⌝ }
+    ensures stores { λ r. ⌜ now (answers .exit) ≡ runBytes (read (now (bytes .entry)) .state) (now (schedule .entry)) (now (answers .entry)) ⌝ }
+{
+    let refused = refusal_saved(bytes, schedule, answers.len());
+    if refused == DONE {
+        return run_events(bytes, schedule, answers);
+    }
+    tallied(0, 0, refused)
+}
+
+// The events, and the state that they end in, taken up from the bytes.
+fn run_laid(b: &mut [u8], schedule: &[u8], answers: &mut [u8]) -> Ran
+    requires { ⌜ (savedGood (now b) ≡ true) × (good (now schedule) ≡ true) × (eventsIn (now schedule) ≤ length (now answers)) ⌝ }
+    ensures gives { λ r. ⌜ r ≡ ranOver (stateIn (now (b .entry))) (now (schedule .entry)) ⌝ }
+    ensures stores { λ r. ⌜ now (answers .exit) ≡ over (answersOf (stateIn (now (b .entry))) (now (schedule .entry))) (now (answers .entry)) ⌝ }
+{
+    let report = run_events(b, schedule, answers);
+    let state = saved::state_in(b);
     Ran { report, state }
 }
 
@@ -151,9 +166,11 @@ pub fn run(s: State, schedule: &[u8], answers: &mut [u8]) -> Ran
 {
     let refused = refusal(s, schedule, answers.len());
     if refused == DONE {
-        return run_events(s, schedule, answers);
+        let mut bytes = saved::laid(s);
+        let long = saved::size(s.shared.threads, s.shared.nodes);
+        return run_laid(&mut bytes[..long], schedule, answers);
     }
-    let report = no_events(refused);
+    let report = tallied(0, 0, refused);
     Ran { report, state: s }
 }
 

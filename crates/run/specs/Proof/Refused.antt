@@ -37,15 +37,15 @@ module _ (s : State) (b : List ℕ) where
   K = s .shared .nodes
 
   -- the test of 3 fails where T and K are the schedule's, and only there
-  same-size : differ (s .shared) (headingOf b) ≡ false → (T ≡ headingOf b .threads) × (K ≡ headingOf b .nodes)
+  same-size : differ T K (headingOf b) ≡ false → (T ≡ headingOf b .threads) × (K ≡ headingOf b .nodes)
   same-size h =
       let neither = neither-holds (not (eqb T (headingOf b .threads))) _ h in
       (eqb-true _ _ (not-false _ (neither .0)), eqb-true _ _ (not-false _ (neither .1)))
 
-  size-same : T ≡ headingOf b .threads → K ≡ headingOf b .nodes → differ (s .shared) (headingOf b) ≡ false
+  size-same : T ≡ headingOf b .threads → K ≡ headingOf b .nodes → differ T K (headingOf b) ≡ false
   size-same t k = rw (eq-eqb T (headingOf b .threads) t, eq-eqb K (headingOf b .nodes) k)
 
-  judges-size : Reflects (badSize if differ (s .shared) (headingOf b)) (badSize given-when ((T ≢ headingOf b .threads) ⊎ (K ≢ headingOf b .nodes)))
+  judges-size : Reflects (badSize if differ T K (headingOf b)) (badSize given-when ((T ≢ headingOf b .threads) ⊎ (K ≢ headingOf b .nodes)))
   judges-size = record {
     holds = λ e. (by-cases (ℕ-discrete T (headingOf b .threads)) (λ t. inr (λ k. true≢false (sym e ∙ size-same t k))) inl, refl);
     fails = λ e. let same = same-size e in ⊎-elim (λ off. off (same .0)) (λ off. off (same .1));
@@ -61,7 +61,7 @@ module _ (s : State) (b : List ℕ) (room : ℕ) where
   pub record Passed : Type 0 where
     pub state : valid s ≡ true
     pub schedule : good b ≡ true
-    pub size : differ (s .shared) (headingOf b) ≡ false
+    pub size : differ (s .shared .threads) (s .shared .nodes) (headingOf b) ≡ false
     pub answers : eventsIn b ≤ room
 
   pub passed : refusal s b room ≡ done → Passed
