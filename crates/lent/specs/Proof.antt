@@ -1,6 +1,5 @@
 -- The arguments behind the theorems about the step over a lent saved state.
--- Read: a step of what was read, and the bytes of the state after it. Answer: the answer, taken apart. Window: a window over the bytes, told and put
--- back, is the step.
+-- Read: a step of what was read, and the bytes of the state after it. Answer: the answer, taken apart. Event: the event in the bytes is the step.
 pub mod Read
 pub mod Answer
-pub mod Window
+pub mod Event

@@ -53,8 +53,8 @@ use Rattle.number.proofs.ThreadNo as N
 use Rattle.number.proofs.ThreadNo.Laws as N′
 use Rattle.machine.specs.Step.{step as stepOf}
 use Rattle.machine.specs.declared.Stepped.{Stepped}
-use Rattle.step.proofs.Stepped as S
-use Rattle.step.proofs.Stepped.Laws as S′
+use Rattle.machine.proofs.Stepped as S
+use Rattle.machine.proofs.Stepped.Laws as S′
 use Rattle.step.proofs.step as step
 use Rattle.step.proofs.step.Symbol as step-def
 use Rattle.step.proofs.step.Symbol.{name as #step}
