@@ -7,10 +7,10 @@ ghost use mathlib.Core.Path.{_≡_};
 ghost use Rattle.cells.specs.Cells.{HasNode, HasThread, Laid, Leaves, Shows};
 ghost use Rattle.event.specs.Event.{Advanced, AtNode, Gives, Ready, Strict, chooseStop, chosen, exchanged, flagLowered, freed, lockedSet, messSent};
 ghost use Rattle.event.specs.Event.{messTaken, nextCleared, nextRead, passedOn, placeStop, prevLinked, prevLooked, released, stopBy, succLooked, tailClosed, waited};
-ghost use Rattle.figure.specs.Figure.{flag as flagOf, line as lineOf};
+ghost use Rattle.figure.specs.Figure.{flag as flagOf, line as lineOf, local as localOf};
 ghost use Rattle.lock.specs.State.{nodeAt, threadAt};
 ghost use Rattle.machine.specs.Acts.{followedBy};
-ghost use Rattle.machine.specs.Refusals.{followsEmpty, mustStay, waitNumber};
+ghost use Rattle.machine.specs.Refusals.{followsEmpty, followsUnused, mustStay, waitNumber};
 ghost use Rattle.machine.specs.Step.{advanceBy, noThread};
 ghost use Rattle.saved.specs.Saved.{savedGood};
 use lines::Follow;
@@ -59,15 +59,29 @@ fn follows_empty(follow: Follow, k: NodeNo) -> bool
     }
 }
 
+// 10: the followed node is not in use.
+fn follows_unused(b: &[u8], k: NodeNo) -> bool
+    requires { ⌜ Laid (now b) ⌝ }
+    ensures { λ r. ⌜ Shows (now (b .entry)) r (λ s. followsUnused (localOf s) k) ⌝ }
+{
+    !(k.0 == 0) & !word::in_use(cells::local(b), k)
+}
+
 // 6, 9 and 10, the first that applies, of a line that follows node k and is given node n but chooses none; else `later`.
 fn follow_stop(b: &[u8], follow: Follow, k: NodeNo, n: NodeNo, later: u8) -> u8
     requires { ⌜ Laid (now b) ⌝ }
     ensures { λ r. ⌜ Shows (now (b .entry)) r (λ s. stopBy follow s k n later) ⌝ }
 {
-    let held = word::in_use(cells::local(b), k);
-    let r10 = number::first(!(k.0 == 0) & !held, FOLLOWED_UNUSED, later);
-    let r9 = number::first(follows_empty(follow, k), FOLLOWED_EMPTY, r10);
-    number::first(!(n.0 == 0), WRONG_NODE, r9)
+    if n.0 != 0 {
+        return WRONG_NODE;
+    }
+    if follows_empty(follow, k) {
+        return FOLLOWED_EMPTY;
+    }
+    if follows_unused(b, k) {
+        return FOLLOWED_UNUSED;
+    }
+    later
 }
 
 // The same, of a line that does nothing with the node that it follows.

@@ -1,21 +1,39 @@
--- `event::follow_stop` meets its contract, by what the tests ensure. Assumes nothing.
+-- `event::follow_stop` meets its contract: the first test that holds is the one that returns. Assumes nothing.
 use borrow.Author.Needs.{needs}
+use borrow.Author.Tests.{eq-eqb, ne-eqb}
+use mathlib.Core.Path.{sym, _∙_}
 use Rattle.event.proofs.follow_stop.Statement.{statement}
 use Rattle.event.proofs.follow_stop.Tie as tie
 
 returns : tie.Need-returns
-returns c =
-    let r6 = c in
-    let r9 = r6 .before .before in
-    let empty = r9 .before in
-    let r10 = empty .before in
-    let taken = r10 .before .before in
-    let used = taken .before in
+returns c = λ s held. rw (ne-eqb _ _ (c .if1 .taken))
+
+returns-2 : tie.Need-returns-2
+returns-2 c =
+    let empty = c .before in
+    let named = empty .before in
+    λ s held. rw (eq-eqb _ _ (named .if1 .left), sym (empty .follows-empty .ensures) ∙ c .if2 .taken)
+
+returns-3 : tie.Need-returns-3
+returns-3 c =
+    let unused = c .before in
+    let some = unused .before in
+    let empty = some .before in
+    let named = empty .before in
     λ s held.
-    simp (r6 .first3 .ensures, r9 .first2 .ensures, empty .follows-empty .ensures, r10 .first .ensures, taken .in-use .ensures, used .local .ensures s held)
+    rw (eq-eqb _ _ (named .if1 .left), sym (empty .follows-empty .ensures) ∙ some .if2 .left, sym (unused .follows-unused .ensures s held) ∙ c .if3 .taken)
+
+returns-4 : tie.Need-returns-4
+returns-4 c =
+    let unused = c .before in
+    let some = unused .before in
+    let empty = some .before in
+    let named = empty .before in
+    λ s held.
+    rw (eq-eqb _ _ (named .if1 .left), sym (empty .follows-empty .ensures) ∙ some .if2 .left, sym (unused .follows-unused .ensures s held) ∙ c .if3 .left)
 
 pub follow-stop-spec : {M : Type 1} → statement M
 follow-stop-spec =
     tie.close
     (tie.spec
-    (λ c κs. search needs) (λ c κs. search needs) (λ c κs. search needs) (λ c κs. search needs) (λ c κs. search needs) (λ c κs. search needs) returns)
+    returns (λ c κs. search needs) returns-2 (λ c κs. search needs) returns-3 returns-4)
