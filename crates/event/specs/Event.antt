@@ -1,7 +1,7 @@
 -- One event on the bytes of a saved state, as its code takes it: for each of the nineteen lines the number that stops it, or 0 and the state after the line,
 -- by what the line does (Acts, crate `machine`) and what its row of the table says. At a line's own row each is the event of the definition (`advanceBy`), by
 -- computation. Assumes nothing.
-use mathlib.Core.Bool.{Bool, cond, not, _||_}
+use mathlib.Core.Bool.{cond, not, _||_}
 use mathlib.Core.List.{List, [], _∷_}
 use mathlib.Core.Path.{_≡_}
 use Prim.Native.Nat.{ℕ}

@@ -13,8 +13,15 @@ returns c =
     let taken = r8 .before in
     let used = taken .before in
     λ s held.
-    simp (r6 .first3 .ensures, k .nodes .ensures s held, r7 .first2 .ensures, count .entered .ensures s held, r8 .first .ensures, taken .in-use .ensures,
-    used .local .ensures s held)
+    simp (
+      r6 .first3 .ensures,
+      k .nodes .ensures s held,
+      r7 .first2 .ensures,
+      count .entered .ensures s held,
+      r8 .first .ensures,
+      taken .in-use .ensures,
+      used .local .ensures s held,
+    )
 
 pub choose-stop-spec : {M : Type 1} → statement M
 choose-stop-spec =

@@ -2,7 +2,7 @@
 use borrow.Author.Needs.{needs}
 use borrow.Author.Tests.{eq-eqb, ne-eqb}
 use mathlib.Core.Bool.{false, true}
-use mathlib.Core.Path.{_≡_, sym, _∙_}
+use mathlib.Core.Path.{_≡_}
 use Rattle.event.specs.Proof.Arms.{goes, stops}
 use Rattle.figure.specs.Figure.{my, tail}
 use Rattle.number.specs.Numbers.{same}

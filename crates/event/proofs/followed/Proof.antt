@@ -1,6 +1,5 @@
 -- `event::followed` meets its contract: in each arm the definition computes at the arm's variant. Assumes nothing.
 use borrow.Author.Needs.{needs}
-use mathlib.Core.Path.{refl}
 use Rattle.event.proofs.followed.Statement.{statement}
 use Rattle.event.proofs.followed.Tie as tie
 

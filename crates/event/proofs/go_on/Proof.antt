@@ -14,9 +14,11 @@ must-wait-requires c κs =
     let start = led .before .before .before in
     let a = start .args in
     let ready = start .pre .0 in
-    let none = sym (stop .follow-stop .ensures _ (ready .held)) ∙ taken .if1 .taken in
-    (ready .has .laid, at-node (a .row .1) (λ strict. has-node (a .b .now) (a .t) ready (a .row .0) (led .followed .result) (led .followed .ensures _ (ready .held))
-    (there (a .row .0) (ready .state) (led .followed .result) (a .n) strict done none)) (start .pre .1))
+    let none = sym (stop .follow-stop .ensures _ (ready .held)) ∙ taken .if1 .taken in (
+      ready .has .laid,
+      at-node (a .row .1) (λ strict. has-node (a .b .now) (a .t) ready (a .row .0) (led .followed .result) (led .followed .ensures _ (ready .held))
+          (there (a .row .0) (ready .state) (led .followed .result) (a .n) strict done none)) (start .pre .1),
+    )
 
 returns : tie.Need-returns
 returns c =

@@ -1,10 +1,5 @@
 -- `event::must_wait` meets its contract: in each arm the definition computes at the arm's variant. Assumes nothing.
-use Prim.Native.Nat.{ℕ}
 use borrow.Author.Needs.{needs}
-use lib.Dec.{eqb}
-use mathlib.Core.Bool.{not}
-use mathlib.Core.Path.{ap}
-use Rattle.number.specs.Numbers.{isBottom}
 use Rattle.event.proofs.must_wait.Statement.{statement}
 use Rattle.event.proofs.must_wait.Tie as tie
 

@@ -14,7 +14,7 @@ use Rattle.figure.specs.Figure.Figure.{line25, line26, line27, line28, line29}
 use Rattle.lines.specs.Lines.{lineAt}
 use Rattle.lock.specs.Judged.{in-table, valid-rule}
 use Rattle.lock.specs.State.{threadAt}
-use Rattle.lock.specs.Valid.{Between, SameSize, Sized, Valid}
+use Rattle.lock.specs.Valid.{SameSize, Sized, Valid}
 use Rattle.lock.specs.declared.State.{State}
 use Rattle.lock.specs.declared.Thread.{Thread}
 use Rattle.number.specs.Refused.{done}

@@ -1,11 +1,11 @@
 -- `run::refusal_saved` meets its contract: the state that good bytes hold is valid and has the T and K that they show, and that of bad ones is not. Assumes nothing.
 use borrow.Author.Needs.{needs}
 use mathlib.Core.Bool.{true}
-use mathlib.Core.Path.{_≡_, ap, sym, _∙_}
+use mathlib.Core.Path.{_≡_, sym, _∙_}
 use Rattle.cells.specs.Proof.Good.{held, laid}
 use Rattle.run.specs.Run.{refusal}
 use Rattle.saved.specs.Proof.Held.{bad-valid, good-state, good-valid}
-use Rattle.saved.specs.Saved.{savedGood, stateIn}
+use Rattle.saved.specs.Saved.{savedGood}
 use Rattle.run.proofs.refusal_saved.Statement.{statement}
 use Rattle.run.proofs.refusal_saved.Tie as tie
 

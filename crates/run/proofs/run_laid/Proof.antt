@@ -1,6 +1,6 @@
 -- `run::run_laid` meets its contract: the bytes that the events leave are a saved state, that which they end in. Assumes nothing.
 use borrow.Author.Needs.{needs}
-use mathlib.Core.Path.{_≡_, ap, sym, _∙_}
+use mathlib.Core.Path.{_∙_}
 use Rattle.run.specs.Run.{ran}
 use Rattle.run.specs.Saved.{end-good}
 use Rattle.run.proofs.run_laid.Statement.{statement}

@@ -12,8 +12,15 @@ returns c =
     let other = short .before in
     let heading = other .before in
     let bad = heading .before in
-    simp (r2 .first3 .ensures, r3 .first2 .ensures, r4 .first .ensures, short .events-in .ensures, other .differ .ensures, heading .heading-of .ensures,
-    bad .good2 .ensures)
+    simp (
+      r2 .first3 .ensures,
+      r3 .first2 .ensures,
+      r4 .first .ensures,
+      short .events-in .ensures,
+      other .differ .ensures,
+      heading .heading-of .ensures,
+      bad .good2 .ensures,
+    )
 
 pub schedule-refusal-spec : {M : Type 1} → statement M
 schedule-refusal-spec =
