@@ -1,21 +1,25 @@
-// Questions about a state: its status, how many threads wait, how many nodes are in use, and the chain of nodes that starts at
-// one. Every question judges its state first. Rests on `number`, `word`, `lock` and `lines`.
-ghost use mathlib.Core.Bool.{cond};
+// Questions about a state: its status, how many threads wait, how many nodes are in use, and the chain of nodes that starts at one. Each
+// is answered on the bytes of a saved state, which are read where they stand and judged first; a state by value is judged, laid into a
+// buffer, and answered there. Rests on `cells` for the bytes, on `saved` and `lock` for judging, and on `lines` for the table.
+ghost use mathlib.Core.Bool.{cond, true};
 ghost use mathlib.Core.Path.{_≡_};
 ghost use Prim.Native.Nat.{_≤_};
 ghost use lib.ListN.{length};
-ghost use Rattle.number.specs.Sizes.{mostThreads};
-ghost use Rattle.ask.specs.Ask.{answered, chain as chainAsked, chainBytes, chainFrom, chainNumber, howManyThreads, isCounted, isOutside, isSought};
+ghost use Rattle.ask.specs.Ask.{answered, chain as chainAsked, chainBytes, chainFrom, howManyThreads, isCounted, isSought, isWaiting};
 ghost use Rattle.ask.specs.Ask.{nodesInUse, refused as refusedBy, status as statusAsked, statusOf, waiting as waitingAsked};
+ghost use Rattle.ask.specs.Inner.{asked, valueOf};
+ghost use Rattle.lock.specs.State.{threadAt};
+ghost use Rattle.lock.specs.Valid.{Between};
 ghost use Rattle.rows.specs.Rows.{over};
+ghost use Rattle.saved.specs.Saved.{read, savedGood, stateIn};
 use lines::Wait;
 use lock::State;
-use lock::Thread;
 use number::BAD_STATE;
 use number::DONE;
 use number::LAST_LINE;
 use number::NodeNo;
 use number::TOO_SHORT;
+use number::ThreadNo;
 use number::WRONG_NODE;
 
 // The three statuses.
@@ -40,6 +44,13 @@ enum Sought {
     Waiting,
 }
 
+// The questions that have a number for an answer.
+enum Question {
+    Status,
+    Waiting,
+    InUse,
+}
+
 // Success is 0.
 fn answered(value: u8) -> Asked
     ensures { λ r. ⌜ r ≡ answered value ⌝ }
@@ -57,7 +68,7 @@ fn refused(number: u8) -> Asked
     Asked { number, value: 0 }
 }
 
-// ---- how many threads
+// ---- how many threads, of a saved state that was judged before
 
 // Waiting for the flag or the unlock counts; waiting for the link, inside the lock, does not.
 fn is_counted(w: Wait) -> bool
@@ -71,17 +82,19 @@ fn is_counted(w: Wait) -> bool
     }
 }
 
-// The thread is one of those that are looked for.
-fn is_sought(sought: Sought, v: Thread) -> bool
-    ensures { λ r. ⌜ r ≡ isSought sought v ⌝ }
+// Thread t is one of those that are looked for.
+fn is_sought(b: &[u8], sought: Sought, t: ThreadNo) -> bool
+    requires { ⌜ (savedGood (now b) ≡ true) × Between 1 (t .0) (stateIn (now b) .shared .threads) ⌝ }
+    ensures { λ r. ⌜ r ≡ isSought sought (threadAt (stateIn (now (b .entry))) t) ⌝ }
 {
-    let row = lines::line_of(v.line);
-    let wait = row.wait;
-    let waiting = is_counted(wait);
-    let holding = (FIRST_HELD <= v.line) & (v.line <= LAST_LINE);
+    let line = cells::line(b, t);
     match sought {
-        Sought::Holding => holding,
-        Sought::Waiting => waiting,
+        Sought::Holding => (FIRST_HELD <= line) & (line <= LAST_LINE),
+        Sought::Waiting => {
+            let row = lines::row_of(line);
+            let wait = row.1;
+            is_counted(wait)
+        }
     }
 }
 
@@ -91,72 +104,63 @@ fn one_if(test: bool) -> u8
     if test { 1 } else { 0 }
 }
 
-// How many of the threads 1 to T are looked for, in a state that was judged before.
-fn how_many_threads(s: State, sought: Sought) -> u8
-    requires { ⌜ s .shared .threads ≤ mostThreads ⌝ }
-    ensures { λ r. ⌜ r ≡ howManyThreads (isSought sought) s ⌝ }
+// How many of the threads 1 to T are looked for.
+fn how_many_threads(b: &[u8], sought: Sought) -> u8
+    requires { ⌜ savedGood (now b) ≡ true ⌝ }
+    ensures { λ r. ⌜ r ≡ howManyThreads (isSought sought) (stateIn (now (b .entry))) ⌝ }
 {
-    let threads = s.shared.threads as usize;
+    let threads = cells::threads(b);
     let mut n: u8 = 0;
-    let mut i = 0;
-    while i < threads {
-        let v = s.thread[i];
-        n += one_if(is_sought(sought, v));
-        i += 1;
+    let mut t: u8 = 0;
+    while t < threads {
+        t += 1;
+        n += one_if(is_sought(b, sought, ThreadNo(t)));
     }
     n
 }
 
-// ---- status, waiting, nodes in use
+// ---- status, waiting, nodes in use, of a saved state that was judged before
 
-// Of a state that was judged before: free, if tail is 0 and flag is 1; else held, if some thread is at 20 to 29; else passing.
-fn status_of(s: State) -> u8
-    requires { ⌜ s .shared .threads ≤ mostThreads ⌝ }
-    ensures { λ r. ⌜ r ≡ statusOf s ⌝ }
+// Free, if tail is 0 and flag is 1; else held, if some thread is at 20 to 29; else passing.
+pub fn status_of(b: &[u8]) -> u8
+    requires { ⌜ savedGood (now b) ≡ true ⌝ }
+    ensures { λ r. ⌜ r ≡ statusOf (stateIn (now (b .entry))) ⌝ }
 {
-    let sh = s.shared;
-    let holders = how_many_threads(s, Sought::Holding);
-    let free = (sh.tail.0 == 0) & (sh.flag == 1);
+    let free = (cells::tail(b).0 == 0) & (cells::flag(b) == 1);
+    let holders = how_many_threads(b, Sought::Holding);
     number::first(free, FREE, number::first(!(holders == 0), HELD, PASSING))
 }
 
-// Whether the lock is free, held or passing.
-pub fn status(s: State) -> Asked
-    ensures { λ r. ⌜ r ≡ statusAsked s ⌝ }
-{
-    if lock::valid(s) {
-        return answered(status_of(s));
-    }
-    refused(BAD_STATE)
-}
-
 // The number of threads at line 16 or 19.
-pub fn waiting(s: State) -> Asked
-    ensures { λ r. ⌜ r ≡ waitingAsked s ⌝ }
+pub fn waiting_of(b: &[u8]) -> u8
+    requires { ⌜ savedGood (now b) ≡ true ⌝ }
+    ensures { λ r. ⌜ r ≡ howManyThreads isWaiting (stateIn (now (b .entry))) ⌝ }
 {
-    if lock::valid(s) {
-        return answered(how_many_threads(s, Sought::Waiting));
-    }
-    refused(BAD_STATE)
+    how_many_threads(b, Sought::Waiting)
 }
 
-// How many nodes are in use.
-pub fn in_use(s: State) -> Asked
-    ensures { λ r. ⌜ r ≡ nodesInUse s ⌝ }
+// The value that a question has.
+fn value_of(b: &[u8], question: Question) -> u8
+    requires { ⌜ savedGood (now b) ≡ true ⌝ }
+    ensures { λ r. ⌜ r ≡ valueOf question (stateIn (now (b .entry))) ⌝ }
 {
-    if lock::valid(s) {
-        let ones = word::how_many(s.shared.used);
-        return answered(ones as u8);
+    match question {
+        Question::Status => status_of(b),
+        Question::Waiting => waiting_of(b),
+        Question::InUse => {
+            let ones = word::how_many(cells::local(b));
+            ones as u8
+        }
     }
-    refused(BAD_STATE)
 }
 
-// ---- the chain
+// ---- the chain, of a saved state that was judged before
 
 // Writes node k, its next, and so on to the start of `out`: at most `left` of them, ending before 0. Gives how many.
-fn chain_from(s: State, k: NodeNo, left: u8, out: &mut [u8]) -> u8
-    requires { ⌜ left ≤ length (now out) ⌝ }
-    ensures { λ r. ⌜ (r ≡ length (chainFrom left s k)) × (now (out .exit) ≡ over (chainFrom left s k) (now (out .entry))) ⌝ }
+fn chain_from(b: &[u8], k: NodeNo, left: u8, out: &mut [u8]) -> u8
+    requires { ⌜ (savedGood (now b) ≡ true) × (k .0 ≤ stateIn (now b) .shared .nodes) × (left ≤ length (now out)) ⌝ }
+    ensures { λ r. ⌜ (r ≡ length (chainFrom left (stateIn (now (b .entry))) k))
+        × (now (out .exit) ≡ over (chainFrom left (stateIn (now (b .entry))) k) (now (out .entry))) ⌝ }
 {
     let i = k.0;
     if left == 0 {
@@ -166,37 +170,107 @@ fn chain_from(s: State, k: NodeNo, left: u8, out: &mut [u8]) -> u8
         return 0;
     }
     out[0] = i;
-    let v = lock::node_of(s, k);
-    let next = v.next;
-    let n = chain_from(s, next, left - 1, &mut out[1..]);
+    let next = cells::next(b, k);
+    let n = chain_from(b, next, left - 1, &mut out[1..]);
     n + 1
 }
 
-// The number is not 1 to K.
-fn is_outside(nodes: u8, k: NodeNo) -> bool
-    ensures { λ r. ⌜ r ≡ isOutside nodes k ⌝ }
+// The node `from`, its next, and so on, ending before 0 or after K nodes, at the start of `out`: 4 and 6, the first that applies.
+fn chain_of(b: &[u8], from: NodeNo, out: &mut [u8]) -> Asked
+    requires { ⌜ savedGood (now b) ≡ true ⌝ }
+    ensures { λ r. ⌜ (r ≡ chainAsked (stateIn (now (b .entry))) from (now (out .entry)))
+        × (now (out .exit) ≡ chainBytes (stateIn (now (b .entry))) from (now (out .entry))) ⌝ }
 {
-    (k.0 == 0) | (nodes < k.0)
+    let nodes = cells::nodes(b);
+    let r6 = number::first((from.0 == 0) | (nodes < from.0), WRONG_NODE, DONE);
+    let number = number::first(out.len() < nodes as usize, TOO_SHORT, r6);
+    if number == DONE {
+        return answered(chain_from(b, from, nodes, out));
+    }
+    refused(number)
 }
 
-// 1, 4 and 6, the first that applies; 0 if none does.
-fn chain_number(s: State, from: NodeNo, room: usize) -> u8
-    ensures { λ r. ⌜ r ≡ chainNumber s from room ⌝ }
+// ---- the calls on the bytes of a saved state: 1, and value 0, if they break a rule
+
+fn of_bytes(bytes: &[u8], question: Question) -> Asked
+    ensures { λ r. ⌜ r ≡ asked question (read (now (bytes .entry)) .state) ⌝ }
 {
-    let nodes = s.shared.nodes;
-    let r6 = number::first(is_outside(nodes, from), WRONG_NODE, DONE);
-    let r4 = number::first(room < nodes as usize, TOO_SHORT, r6);
-    number::first(!lock::valid(s), BAD_STATE, r4)
+    if saved::good(bytes) {
+        return answered(value_of(bytes, question));
+    }
+    refused(BAD_STATE)
+}
+
+pub fn status_saved(bytes: &[u8]) -> Asked
+    ensures { λ r. ⌜ r ≡ statusAsked (read (now (bytes .entry)) .state) ⌝ }
+{
+    of_bytes(bytes, Question::Status)
+}
+
+pub fn waiting_saved(bytes: &[u8]) -> Asked
+    ensures { λ r. ⌜ r ≡ waitingAsked (read (now (bytes .entry)) .state) ⌝ }
+{
+    of_bytes(bytes, Question::Waiting)
+}
+
+pub fn in_use_saved(bytes: &[u8]) -> Asked
+    ensures { λ r. ⌜ r ≡ nodesInUse (read (now (bytes .entry)) .state) ⌝ }
+{
+    of_bytes(bytes, Question::InUse)
+}
+
+pub fn chain_saved(bytes: &[u8], from: NodeNo, out: &mut [u8]) -> Asked
+    ensures { λ r. ⌜ (r ≡ chainAsked (read (now (bytes .entry)) .state) from (now (out .entry)))
+        × (now (out .exit) ≡ chainBytes (read (now (bytes .entry)) .state) from (now (out .entry))) ⌝ }
+{
+    if saved::good(bytes) {
+        return chain_of(bytes, from, out);
+    }
+    refused(BAD_STATE)
+}
+
+// ---- the calls on a state by value: 1, and value 0, if it breaks a rule
+
+fn of_state(s: State, question: Question) -> Asked
+    ensures { λ r. ⌜ r ≡ asked question s ⌝ }
+{
+    if lock::valid(s) {
+        let bytes = saved::laid(s);
+        let long = saved::size(s.shared.threads, s.shared.nodes);
+        return answered(value_of(&bytes[..long], question));
+    }
+    refused(BAD_STATE)
+}
+
+// Whether the lock is free, held or passing.
+pub fn status(s: State) -> Asked
+    ensures { λ r. ⌜ r ≡ statusAsked s ⌝ }
+{
+    of_state(s, Question::Status)
+}
+
+// The number of threads at line 16 or 19.
+pub fn waiting(s: State) -> Asked
+    ensures { λ r. ⌜ r ≡ waitingAsked s ⌝ }
+{
+    of_state(s, Question::Waiting)
+}
+
+// How many nodes are in use.
+pub fn in_use(s: State) -> Asked
+    ensures { λ r. ⌜ r ≡ nodesInUse s ⌝ }
+{
+    of_state(s, Question::InUse)
 }
 
 // The node `from`, its next, and so on, ending before 0 or after K nodes, at the start of `out`. Gives how many.
 pub fn chain(s: State, from: NodeNo, out: &mut [u8]) -> Asked
     ensures { λ r. ⌜ (r ≡ chainAsked s from (now (out .entry))) × (now (out .exit) ≡ chainBytes s from (now (out .entry))) ⌝ }
 {
-    let number = chain_number(s, from, out.len());
-    if number == DONE {
-        let value = chain_from(s, from, s.shared.nodes, out);
-        return answered(value);
+    if lock::valid(s) {
+        let bytes = saved::laid(s);
+        let long = saved::size(s.shared.threads, s.shared.nodes);
+        return chain_of(&bytes[..long], from, out);
     }
-    refused(number)
+    refused(BAD_STATE)
 }

@@ -1,10 +1,11 @@
-// The calls for C and Rust, on saved states in bytes. Each is thin: it opens the state that the bytes hold and hands it to the call of
-// a crate below. A number behind a `&mut` is a result, and is written in every case. Rests on `saved`, `lent`, `run` and `ask`.
+// The calls for C and Rust, on saved states in bytes. Each is thin: it hands the bytes to the call of a crate below, which works on them
+// where they stand, and no call has a state by value. A number behind a `&mut` is a result, and is written in every case. Rests on
+// `saved`, `lent`, `run` and `ask`.
 ghost use mathlib.Core.Path.{_≡_};
 ghost use Rattle.board.specs.Board.{RunGives, askChain, askChainBytes, askInUse, askStatus, askWaiting, checkNumber, freshBytes, freshNumber};
-ghost use Rattle.board.specs.Board.{heldIn, isRefusal, runAnswers, runReport, runSaved, stepBytes, stepNumber};
+ghost use Rattle.board.specs.Board.{stepBytes, stepNumber};
 ghost use Rattle.run.specs.Run.{unreadFrom};
-use lock::State;
+use number::BAD_SIZE;
 use number::BAD_STATE;
 use number::DONE;
 use number::NodeNo;
@@ -20,13 +21,13 @@ pub extern "C" fn sedge_fresh(threads: u8, nodes: u8, out: &mut [u8]) -> u8
     ensures number { λ r. ⌜ r ≡ freshNumber threads nodes (now (out .entry)) ⌝ }
     ensures bytes { λ r. ⌜ now (out .exit) ≡ freshBytes threads nodes (now (out .entry)) ⌝ }
 {
-    let made = lock::fresh(threads, nodes);
-    let number = made.number;
-    if number != DONE {
-        return number;
+    let bad = !lock::in_size(threads, nodes);
+    let short = out.len() < saved::size(threads, nodes);
+    let number = number::first(bad, BAD_SIZE, number::first(short, TOO_SHORT, DONE));
+    if number == DONE {
+        saved::put_fresh(threads, nodes, out);
     }
-    let s = made.state;
-    saved::save(s, out)
+    number
 }
 
 // 0 if the bytes are a saved state, and else 1.
@@ -34,16 +35,7 @@ pub extern "C" fn sedge_fresh(threads: u8, nodes: u8, out: &mut [u8]) -> u8
 pub extern "C" fn sedge_check(bytes: &[u8]) -> u8
     ensures { λ r. ⌜ r ≡ checkNumber (now (bytes .entry)) ⌝ }
 {
-    let opened = saved::read(bytes);
-    opened.number
-}
-
-// The state that the bytes hold; 0 everywhere where they break a rule, which every call refuses by the same number.
-fn held_in(bytes: &[u8]) -> State
-    ensures { λ r. ⌜ r ≡ heldIn (now (bytes .entry)) ⌝ }
-{
-    let opened = saved::read(bytes);
-    opened.state
+    number::first(saved::good(bytes), DONE, BAD_STATE)
 }
 
 // ---- one event, and a run
@@ -54,29 +46,6 @@ pub extern "C" fn sedge_step(bytes: &mut [u8], thread: u8, node: u8) -> u8
     ensures { λ r. ⌜ (r ≡ stepNumber (now (bytes .entry)) thread node) × (now (bytes .exit) ≡ stepBytes (now (bytes .entry)) thread node) ⌝ }
 {
     lent::step_saved(bytes, ThreadNo(thread), NodeNo(node))
-}
-
-// The refusals that come before the first event and change nothing: 1 to 4.
-fn is_refusal(number: u8) -> bool
-    ensures { λ r. ⌜ r ≡ isRefusal number ⌝ }
-{
-    (BAD_STATE <= number) & (number <= TOO_SHORT)
-}
-
-// The run of the schedule from the saved state. What it ends in has the same T and K, so its bytes stand where the others stood.
-fn run_saved(bytes: &mut [u8], schedule: &[u8], answers: &mut [u8]) -> Report
-    ensures reports { λ r. ⌜ r ≡ runReport (now (bytes .entry)) (now (schedule .entry)) (now (answers .entry)) ⌝ }
-    ensures saves { λ r. ⌜ now (bytes .exit) ≡ runSaved (now (bytes .entry)) (now (schedule .entry)) (now (answers .entry)) ⌝ }
-    ensures stores { λ r. ⌜ now (answers .exit) ≡ runAnswers (now (bytes .entry)) (now (schedule .entry)) (now (answers .entry)) ⌝ }
-{
-    let s = held_in(bytes);
-    let ran = run::run(s, schedule, answers);
-    let report = ran.report;
-    if !is_refusal(report.stop) {
-        let end = ran.state;
-        saved::put_state(end, bytes);
-    }
-    report
 }
 
 // The place in the schedule where the part begins that the run of this report left unread.
@@ -100,7 +69,7 @@ pub extern "C" fn sedge_run(
     ensures { λ r. ⌜ RunGives (now (bytes .entry)) (now (schedule .entry)) (now (answers .entry)) r (now (executed .exit)) (now (waited .exit))
         (now (unread .exit)) (now (bytes .exit)) (now (answers .exit)) ⌝ }
 {
-    let report = run_saved(bytes, schedule, answers);
+    let report = run::run_saved(bytes, schedule, answers);
     *executed = report.executed;
     *waited = report.waited;
     *unread = unread_from(schedule, report);
@@ -114,7 +83,7 @@ pub extern "C" fn sedge_run(
 pub extern "C" fn sedge_status(bytes: &[u8], status: &mut u8) -> u8
     ensures { λ r. ⌜ (r ≡ askStatus (now (bytes .entry)) .number) × (now (status .exit) ≡ askStatus (now (bytes .entry)) .value) ⌝ }
 {
-    let asked = ask::status(held_in(bytes));
+    let asked = ask::status_saved(bytes);
     *status = asked.value;
     asked.number
 }
@@ -124,7 +93,7 @@ pub extern "C" fn sedge_status(bytes: &[u8], status: &mut u8) -> u8
 pub extern "C" fn sedge_waiting(bytes: &[u8], waiting: &mut u8) -> u8
     ensures { λ r. ⌜ (r ≡ askWaiting (now (bytes .entry)) .number) × (now (waiting .exit) ≡ askWaiting (now (bytes .entry)) .value) ⌝ }
 {
-    let asked = ask::waiting(held_in(bytes));
+    let asked = ask::waiting_saved(bytes);
     *waiting = asked.value;
     asked.number
 }
@@ -134,7 +103,7 @@ pub extern "C" fn sedge_waiting(bytes: &[u8], waiting: &mut u8) -> u8
 pub extern "C" fn sedge_in_use(bytes: &[u8], in_use: &mut u8) -> u8
     ensures { λ r. ⌜ (r ≡ askInUse (now (bytes .entry)) .number) × (now (in_use .exit) ≡ askInUse (now (bytes .entry)) .value) ⌝ }
 {
-    let asked = ask::in_use(held_in(bytes));
+    let asked = ask::in_use_saved(bytes);
     *in_use = asked.value;
     asked.number
 }
@@ -146,7 +115,7 @@ pub extern "C" fn sedge_chain(bytes: &[u8], from: u8, out: &mut [u8], listed: &m
     ensures value { λ r. ⌜ now (listed .exit) ≡ askChain (now (bytes .entry)) from (now (out .entry)) .value ⌝ }
     ensures list { λ r. ⌜ now (out .exit) ≡ askChainBytes (now (bytes .entry)) from (now (out .entry)) ⌝ }
 {
-    let asked = ask::chain(held_in(bytes), NodeNo(from), out);
+    let asked = ask::chain_saved(bytes, NodeNo(from), out);
     *listed = asked.value;
     asked.number
 }

@@ -1,52 +1,36 @@
--- `ask::chain` meets its contract. The number decides: where it is 0 the output has room, and `chain_from` writes the list; elsewhere nothing is
--- written. Rests on Answer. Assumes nothing.
-use mathlib.Core.Path.{refl, sym, _∙_}
-use lib.ListN.{length}
+-- `ask::chain` meets its contract: the part of the buffer that is lent is the saved state of s. Rests on Answer. Assumes nothing.
+use mathlib.Core.Path.{sym, _∙_}
+use native.Mathlib.Omega.{arith}
+use lib.Seq.{length-take-le}
 use borrow.Author.Needs.{needs}
-use Rattle.ask.specs.Proof.Answer.{chain-accepted, chain-refused, enough}
+use Rattle.ask.specs.Proof.Answer.{lent, refuses-chain}
 use Rattle.ask.proofs.chain.Statement.{statement}
 use Rattle.ask.proofs.chain.Tie as tie
 
-chain-number-requires : tie.Need-chain-number-requires
-chain-number-requires c κs = search needs
-
-chain-from-requires : tie.Need-chain-from-requires
-chain-from-requires c κs =
-    let a = c .before .before .before .before .args in
-    enough (a .s) (a .from) (length (a .out .now)) (sym (c .before .before .chain-number .ensures) ∙ c .before .if1 .taken) .0
-
-answered-requires : tie.Need-answered-requires
-answered-requires c κs = search needs
-
-same-length : tie.Need-same-length
-same-length c = search needs
+chain-of-requires : tie.Need-chain-of-requires
+chain-of-requires c κs = let long = c .before .before in lent (long .before .laid .ensures) (long .size .ensures) .0
 
 returns : tie.Need-returns
 returns c =
-    let a = c .before .before .before .before .before .before .before .before .args in
-    let list = c .before .before .before .chain-from .ensures in
-    let accepted = c .before .before .before .before .before in
-    let given = chain-accepted (a .s) (a .from) (a .out .now) (sym (accepted .before .chain-number .ensures) ∙ accepted .if1 .taken) in
-    rw (given .0, given .1) (c .answered .ensures ∙ rw (list .0), list .1)
-
-refused-requires : tie.Need-refused-requires
-refused-requires c κs = search needs
+    let long = c .before .before .before .before .before in
+    rw (← lent (long .before .laid .ensures) (long .size .ensures) .1) (c .before .before .chain-of .ensures)
 
 returns-2 : tie.Need-returns-2
 returns-2 c =
-    let a = c .before .before .before .before .args in
-    let number = c .before .before .chain-number .ensures in
-    let given = chain-refused (a .s) (a .from) (a .out .now) (λ z. c .before .if1 .left (number ∙ z)) in
-    rw (given .0, given .1) (c .refused .ensures ∙ rw number, refl)
+    let off = refuses-chain _ _ _ (sym (c .before .before .valid .ensures) ∙ c .before .if1 .left) in
+    (c .refused .ensures ∙ off .0, off .1)
 
 pub chain-spec : {M : Type 1} → statement M
 chain-spec =
     tie.close
     (tie.spec
-    chain-number-requires
-    chain-from-requires
-    answered-requires
-    same-length
+    (λ c κs. search needs)
+    (λ c κs. sym (c .before .valid .ensures) ∙ c .if1 .taken)
+    (λ c κs. search needs)
+    (λ c. search needs)
+    (λ c. sym (length-take-le _ _ (omega arith)))
+    chain-of-requires
+    (λ c. search needs)
     returns
-    refused-requires
+    (λ c κs. search needs)
     returns-2)

@@ -1,29 +1,45 @@
--- `ask::is_sought` meets its contract. In each arm the definition computes at the arm's variant. Assumes nothing.
+-- `ask::is_sought` meets its contract: the line that is read is the thread's, and in each arm the definition computes at the arm's variant.
+-- Assumes nothing.
+use mathlib.Core.Path.{_≡_, _∙_}
+use native.Mathlib.Omega.{arith}
 use borrow.Author.Needs.{needs}
+use Rattle.cells.specs.Cells.{Held}
+use Rattle.cells.specs.Proof.Good.{held, laid}
+use Rattle.cells.specs.Proof.Laws.{threads-same}
+use Rattle.lock.specs.State.{threadAt}
+use Rattle.saved.specs.Proof.Held.{held-valid}
+use Rattle.saved.specs.Saved.{stateIn}
 use Rattle.ask.proofs.is_sought.Statement.{statement}
 use Rattle.ask.proofs.is_sought.Tie as tie
 
-line-of-requires : tie.Need-line-of-requires
-line-of-requires c κs = search needs
+bytes : (c : tie.After-shared-slice-known) → let b = c .before .args .b .now in Held b (stateIn b)
+bytes c = held (c .before .args .b .now) (λ i. c .shared-slice-known .given i .fits) (c .before .pre .0)
 
-is-counted-requires : tie.Need-is-counted-requires
-is-counted-requires c κs = search needs
+line-requires : tie.Need-line-requires
+line-requires c κs =
+    let (good, there) = c .before .pre in
+    record { laid = laid _ good; from = there .from; to = omega (arith, there .to, threads-same _ _ (bytes c)) }
 
-enum-told : tie.Need-enum-told
-enum-told c = search needs
+line-is : (c : tie.After-line) → let a = c .before .before .args in c .line .result ≡ threadAt (stateIn (a .b .now)) (a .t) .line
+line-is c = c .line .ensures _ (bytes (c .before))
 
-enum-told-2 : tie.Need-enum-told-2
-enum-told-2 c = search needs
+row-of-requires : tie.Need-row-of-requires
+row-of-requires c κs =
+    let start = c .before .before .before .before in
+    let range = held-valid (start .args .b .now) (start .pre .0) .thread (start .args .t) (start .pre .1 .from) (start .pre .1 .to) .line in
+    rw (line-is (c .before .before)) (range .from, range .to)
 
 returns : tie.Need-returns
-returns c = rw (c .enum-told .given .1)
+returns c = rw (c .enum-told .given .1, line-is (c .before .before))
 
 returns-2 : tie.Need-returns-2
 returns-2 c =
-    let wait = c .before .before .before .before in
-    rw (c .enum-told2 .given .1, wait .is-counted .ensures, wait .before .line-of .ensures)
+    let row = c .before in
+    let arm = row .before in
+    rw (arm .enum-told2 .given .1, ← line-is (arm .before .before)) (c .is-counted .ensures ∙ rw (row .row-of .ensures))
 
 pub is-sought-spec : {M : Type 1} → statement M
 is-sought-spec =
     tie.close
-    (tie.spec line-of-requires is-counted-requires enum-told enum-told-2 returns returns-2)
+    (tie.spec
+    line-requires (λ c. search needs) (λ c. search needs) row-of-requires (λ c κs. search needs) returns returns-2)

@@ -1,43 +1,39 @@
--- `board::sedge_fresh` meets its contract. Where the state was made, T and K are 1 to 32, and what saving it gives is what the definition gives
--- (specs/Proof/Fresh); where it was not, they are not. Assumes nothing.
-use mathlib.Core.Path.{ap, sym, _∙_}
+-- `board::sedge_fresh` meets its contract: the number is that of its two tests, and 0 says that T and K are 1 to 32 and that there is room (Fresh).
+-- Assumes nothing.
+use mathlib.Core.Path.{_≡_, sym, _∙_}
 use borrow.Author.Needs.{needs}
-use Rattle.lock.specs.Theorems.{fresh-accepted, fresh-refused}
-use Rattle.lock.specs.declared.Opened.{Opened}
-use Rattle.lock.specs.declared.State.{State}
-use Rattle.saved.specs.Saved.{saveNumber, savedOver}
-use Rattle.board.specs.Proof.Fresh.{bad-size, bytes-saved, made-or-not, number-saved}
+use Rattle.board.specs.Board.{freshNumber}
+use Rattle.board.specs.Proof.Fresh.{accepted, of-accepted, of-refused}
 use Rattle.board.proofs.sedge_fresh.Statement.{statement}
 use Rattle.board.proofs.sedge_fresh.Tie as tie
 
-fresh-requires : tie.Need-fresh-requires
-fresh-requires c κs = search needs
+number : (c : tie.After-first2) → let a = c .before .before .before .before .before .args in
+    c .first2 .result ≡ freshNumber (a .threads) (a .nodes) (a .out .now)
+unfolding freshNumber
+number c =
+    c .first2 .ensures ∙ simp (c .before .first .ensures, c .before .before .size .ensures, c .before .before .before .in-size .ensures)
+
+put-fresh-requires : tie.Need-put-fresh-requires
+put-fresh-requires c κs = let ok = accepted _ _ _ (sym (number (c .before .before)) ∙ c .before .if1 .taken) in (ok .0, ok .1)
 
 returns : tie.Need-returns
 returns c =
-    let a = c .before .before .before .args in
-    let made = ap (λ (o : Opened). o .number) (c .before .fresh .ensures) in
-    let off = made-or-not (a .threads) (a .nodes) .1 (λ z. c .if1 .taken (made ∙ z)) in
-    let given = bad-size (a .threads) (a .nodes) (a .out .now) off in
-    (made ∙ ap (λ (o : Opened). o .number) (fresh-refused _ _ off) ∙ sym (given .0), sym (given .1))
-
-save-requires : tie.Need-save-requires
-save-requires c κs = search needs
-
-same-length : tie.Need-same-length
-same-length c = search needs
+    let test = c .before .before .before .before in
+    let is = number (test .before) in
+    (is, c .before .before .put-fresh .ensures ∙ sym (of-accepted _ _ _ (sym is ∙ test .if1 .taken)))
 
 returns-2 : tie.Need-returns-2
-returns-2 c =
-    let told = c .before .before .before .before .before in
-    let a = told .before .before .before .args in
-    let made = told .before .fresh .ensures in
-    let on = made-or-not (a .threads) (a .nodes) .0 (sym (ap (λ (o : Opened). o .number) made) ∙ told .if1 .left) in
-    let state = ap (λ (o : Opened). o .state) (made ∙ fresh-accepted _ _ on) in
-    let saved = c .before .before .save .ensures in (
-      saved .0 ∙ ap (λ (s : State). saveNumber s (a .out .now)) state ∙ number-saved (a .threads) (a .nodes) (a .out .now) on,
-      saved .1 ∙ ap (λ (s : State). savedOver s (a .out .now)) state ∙ bytes-saved (a .threads) (a .nodes) (a .out .now) on,
-    )
+returns-2 c = let is = number (c .before) in (is, sym (of-refused _ _ _ (λ z. c .if1 .left (is ∙ z))))
 
 pub sedge-fresh-spec : {M : Type 1} → statement M
-sedge-fresh-spec = tie.close (tie.spec fresh-requires returns save-requires same-length returns-2)
+sedge-fresh-spec =
+    tie.close
+    (tie.spec
+    (λ c κs. search needs)
+    (λ c κs. search needs)
+    (λ c κs. search needs)
+    (λ c κs. search needs)
+    put-fresh-requires
+    (λ c. search needs)
+    returns
+    returns-2)

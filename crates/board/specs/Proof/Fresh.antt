@@ -1,5 +1,5 @@
--- A fresh state, made and saved: its two tests say what its two conditions say, and a fresh state is saved wherever there is room. Assumes nothing.
-use mathlib.Core.Bool.{Bool, false, not, true, true≢false}
+-- A saved fresh state: its two tests say what its two conditions say, and what is written is read as the fresh state. Assumes nothing.
+use mathlib.Core.Bool.{not, true, true≢false}
 use mathlib.Core.List.{List}
 use mathlib.Core.Logic.{_≢_, _⊎_, _↔_, by-cases, inl, inr, ⊎-elim}
 use mathlib.Core.Path.{_≡_, ap, refl, sym, _∙_}
@@ -7,19 +7,19 @@ use Prim.Native.Nat.{ℕ, _≤_}
 use native.Mathlib.Decide.{decLe}
 use native.Mathlib.Omega.{arith}
 use lib.ListN.{drop, length, take}
+use lib.Seq.{drop-at, take-at}
 use borrow.Author.Tests.{eq-eqb, ltb-false, ne-eqb, not-false, not-true}
-use Rattle.lock.specs.Fresh.{fresh, freshState, inSize, opened}
-use Rattle.lock.specs.Judged.{rule-size, rule-valid, size-rule}
-use Rattle.lock.specs.Theorems.{fresh-accepted, fresh-refused, fresh-valid}
-use Rattle.lock.specs.Valid.{Between, valid}
-use Rattle.lock.specs.declared.Opened.{Opened}
+use Rattle.lock.specs.Fresh.{freshState, inSize, opened}
+use Rattle.lock.specs.Judged.{rule-size, size-rule}
+use Rattle.lock.specs.Theorems.{fresh-valid}
+use Rattle.lock.specs.Valid.{Between}
 use Rattle.number.specs.First.{First, _given-when_}
 use Rattle.number.specs.FirstThat.{AllReflect, Reflects, judges-short, none-holds, number-exactly}
 use Rattle.number.specs.Refused.{_if_, badSize, done}
 use Rattle.number.specs.Sizes.{mostNodes, mostThreads}
 use Rattle.rows.specs.Rows.{over}
-use Rattle.saved.specs.Saved.{bytesOf, read, saveNumber, savedOver, size}
-use Rattle.saved.specs.Theorems.{save-accepted, save-then-read}
+use Rattle.saved.specs.Saved.{bytesOf, read, size}
+use Rattle.saved.specs.Theorems.{read-save, saved-size}
 use Rattle.board.specs.Board.{freshBytes, freshConditions, freshNumber, freshRefusals}
 
 -- ---- "T or K outside 1 to 32"
@@ -35,14 +35,6 @@ module _ (T K : ℕ) where
     holds = λ e. (by-cases (between 1 T mostThreads) (λ t. inr (λ k. true≢false (sym (rule-size T K t k) ∙ not-true _ e))) inl, refl);
     fails = λ e. let inside = size-rule T K (not-false _ e) in ⊎-elim (λ off. off (inside .0)) (λ off. off (inside .1));
   }
-
-  -- a fresh state is made exactly if T and K are 1 to 32
-  pub made-or-not : (fresh T K .number ≡ done → inSize T K ≡ true) × (fresh T K .number ≢ done → inSize T K ≡ false)
-  made-or-not = by-size (inSize T K) refl
-    where
-      by-size : (t : Bool) → inSize T K ≡ t → (fresh T K .number ≡ done → inSize T K ≡ true) × (fresh T K .number ≢ done → inSize T K ≡ false)
-      by-size true h = ((λ e. h), λ off. absurd (off (ap (λ (o : Opened). o .number) (fresh-accepted T K h))))
-      by-size false h = ((λ e. absurd (omega (arith, e, ap (λ (o : Opened). o .number) (fresh-refused T K h)))), λ off. h)
 
   module _ (out : List ℕ) where
     judges : AllReflect (freshRefusals T K out) (freshConditions T K out)
@@ -68,28 +60,11 @@ module _ (T K : ℕ) where
         let off = none-holds (freshRefusals T K out) (omega arith) h in
         (not-false _ (off .0), ltb-false _ _ (off .1 .0))
 
-    -- ---- the code's way: the size is judged where the state is made, and the room where it is saved
-    pub bad-size : inSize T K ≡ false → (freshNumber T K out ≡ badSize) × (freshBytes T K out ≡ out)
-    unfolding freshNumber
-    bad-size h = let number : freshNumber T K out ≡ badSize = rw h in (number, of-refused (λ z. omega (arith, number, z)))
-
-    module _ (h : inSize T K ≡ true) where
-      saves : valid (freshState T K) ≡ true
-      saves = rule-valid (freshState T K) (fresh-valid T K h)
-
-      pub number-saved : saveNumber (freshState T K) out ≡ freshNumber T K out
-      unfolding freshNumber saveNumber
-      number-saved = rw (h, saves)
-
-      pub bytes-saved : savedOver (freshState T K) out ≡ freshBytes T K out
-      unfolding freshBytes savedOver
-      bytes-saved = rw number-saved
-
-    -- ---- so what is written is read as the fresh state
+    -- so what is written is read as the fresh state
     pub reads-fresh : freshNumber T K out ≡ done
         → (read (take (size T K) (freshBytes T K out)) ≡ opened done (freshState T K)) × (drop (size T K) (freshBytes T K out) ≡ drop (size T K) out)
     reads-fresh h =
-        let inside = accepted h .0 in
-        let sized = fresh-valid T K inside .sized in
-        let saves = number-saved inside ∙ h in
-        rw (← bytes-saved inside) (save-then-read (freshState T K) out sized saves, save-accepted (freshState T K) out sized saves .1)
+        let v = fresh-valid T K (accepted h .0) in
+        let bytes = bytesOf (freshState T K) in
+        let l : length bytes ≡ size T K = saved-size (freshState T K) v .0 in
+        rw (of-accepted h, l) (ap read (take-at bytes _ _ l) ∙ read-save (freshState T K) v, drop-at bytes _ _ l)
