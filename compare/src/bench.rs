@@ -15,6 +15,9 @@ const ROUNDS: usize = 101;
 
 type StepSaved = fn(&mut [u8], u8, u8) -> u8;
 type RunSaved = fn(&mut [u8], &[u8], &mut [u8]) -> Run;
+type FreshSaved = fn(u8, u8, &mut [u8]) -> u8;
+type AskSaved = fn(&[u8]) -> (u8, u8);
+type ChainSaved = fn(&[u8], u8, &mut [u8]) -> (u8, u8);
 
 /// What one side took: the median of all rounds, and the least, which other work on the machine spoils less.
 struct Taken {
@@ -224,9 +227,38 @@ fn stacks(size: u8, seed: u64) {
             black_box(run(&mut saved, &schedule, &mut answers));
         })
     };
-    let (what_step, what_run) = (format!("step, T = K = {size}"), format!("run, T = K = {size}"));
-    stack_row(&what_step, step(tool::step), step(machine::step));
-    stack_row(&what_run, run(tool::run), run(machine::run));
+    let fresh = |fresh: FreshSaved| {
+        let mut saved = saved.clone();
+        stack::depth(move || {
+            black_box(fresh(size, size, &mut saved));
+        })
+    };
+    let ask = |ask: AskSaved| {
+        let saved = saved.clone();
+        stack::depth(move || {
+            black_box(ask(&saved));
+        })
+    };
+    // one chain through all the nodes, 1 to K, and one of a single node
+    let chain = |chain: ChainSaved, all: bool| {
+        let (mut linked, mut list) = (saved.clone(), vec![0; usize::from(size)]);
+        for node in 1..size {
+            linked[23 + 4 * (usize::from(node) - 1) + 2] = if all { node + 1 } else { 0 };
+        }
+        stack::depth(move || {
+            black_box(chain(&linked, 1, &mut list));
+        })
+    };
+    let row = |what: &str, tool, separate| stack_row(&format!("{what}, T = K = {size}"), tool, separate);
+    row("step", step(tool::step), step(machine::step));
+    row("run", run(tool::run), run(machine::run));
+    row("fresh", fresh(tool::fresh), fresh(machine::fresh));
+    row("check", ask(|b| (tool::check(b), 0)), ask(|b| (machine::check(b), 0)));
+    row("status", ask(tool::status), ask(machine::status));
+    row("waiting", ask(tool::waiting), ask(machine::waiting));
+    row("nodes in use", ask(tool::in_use), ask(machine::in_use));
+    row("chain of one node", chain(tool::chain, false), chain(machine::chain, false));
+    row("chain of K nodes", chain(tool::chain, true), chain(machine::chain, true));
 }
 
 pub fn bench(seed: u64) {
@@ -247,7 +279,7 @@ pub fn bench(seed: u64) {
         refused_steps(size);
     }
     println!();
-    println!("{:<54} {columns}", "stack bytes of an accepted step, of a whole run");
+    println!("{:<54} {columns}", "stack bytes of a call (the step accepted, the run whole)");
     for size in [4, 32] {
         stacks(size, seed);
     }
