@@ -7,15 +7,6 @@ use Rattle.lock.specs.Judged.{size-rule}
 use Rattle.lock.proofs.fresh.Statement.{statement}
 use Rattle.lock.proofs.fresh.Tie as tie
 
-in-size-requires : tie.Need-in-size-requires
-in-size-requires c κs = search needs
-
-fresh-shared-requires : tie.Need-fresh-shared-requires
-fresh-shared-requires c κs = search needs
-
-zero-node-requires : tie.Need-zero-node-requires
-zero-node-requires c κs = search needs
-
 idle-threads-requires : tie.Need-idle-threads-requires
 idle-threads-requires c κs =
     let a = c .before .before .before .before .args in
@@ -28,9 +19,6 @@ returns c =
     rw (← sizes .in-size .ensures, c .before .before .before .if1 .taken)
     (simp (c .before .before .fresh-shared .ensures, c .before .zero-node .ensures, c .idle-threads .ensures))
 
-zero-state-requires : tie.Need-zero-state-requires
-zero-state-requires c κs = search needs
-
 returns-2 : tie.Need-returns-2
 unfolding fresh
 returns-2 c = rw (← c .before .before .in-size .ensures, c .before .if1 .left, c .zero-state .ensures)
@@ -39,10 +27,5 @@ pub fresh-spec : {M : Type 1} → statement M
 fresh-spec =
     tie.close
     (tie.spec
-    in-size-requires
-    fresh-shared-requires
-    zero-node-requires
-    idle-threads-requires
-    returns
-    zero-state-requires
-    returns-2)
+    (λ c κs. search needs) (λ c κs. search needs) (λ c κs. search needs) idle-threads-requires returns
+    (λ c κs. search needs) returns-2)

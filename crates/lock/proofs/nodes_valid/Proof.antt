@@ -19,36 +19,12 @@ Inv-loop s nodes ok₀ i₀ ok i = (i ≤ tableSize) × (ok ≡ upTo (nodeInRang
 abbrev μ-loop : tie.MeasureT-loop
 μ-loop s nodes ok₀ i₀ ok i = i
 
-cast-i : tie.Need-cast-i Inv-loop μ-loop
-cast-i c = search needs
-
 loop-holds : tie.Need-loop-holds Inv-loop μ-loop
 loop-holds c =
     let s = c .args .t1 in
     let K = s .shared .nodes in
     let h : length (s .node) ≡ tableSize = search length-mapped in
     (search needs, judged-none (nodeInRange K) nodeIsZero K (s .node) tableSize (omega arith))
-
-sub-i : tie.Need-sub-i Inv-loop μ-loop
-sub-i c = search needs
-
-mul-v : tie.Need-mul-v Inv-loop μ-loop
-mul-v c = search needs
-
-element-copy-out-v : tie.Need-element-copy-out-v Inv-loop μ-loop
-element-copy-out-v c = search needs
-
-node-in-range-requires : tie.Need-node-in-range-requires Inv-loop μ-loop
-node-in-range-requires c κs = search needs
-
-node-is-zero-requires : tie.Need-node-is-zero-requires Inv-loop μ-loop
-node-is-zero-requires c κs = search needs
-
-pick-up-to-requires : tie.Need-pick-up-to-requires Inv-loop μ-loop
-pick-up-to-requires c κs = search needs
-
-loop-less : tie.Need-loop-less Inv-loop μ-loop
-loop-less c = search needs
 
 loop-again : tie.Need-loop-again Inv-loop μ-loop
 loop-again c =
@@ -72,16 +48,6 @@ pub nodes-valid-spec : {M : Type 1} → statement M
 nodes-valid-spec =
     tie.close
     (tie.spec
-    Inv-loop
-    μ-loop
-    cast-i
-    loop-holds
-    sub-i
-    mul-v
-    element-copy-out-v
-    node-in-range-requires
-    node-is-zero-requires
-    pick-up-to-requires
-    loop-less
-    loop-again
-    returns)
+    Inv-loop μ-loop (λ c. search needs) loop-holds (λ c. search needs) (λ c. search needs)
+    (λ c. search needs) (λ c κs. search needs) (λ c κs. search needs) (λ c κs. search needs)
+    (λ c. search needs) loop-again returns)

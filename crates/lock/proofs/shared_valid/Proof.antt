@@ -5,12 +5,6 @@ use Rattle.lock.specs.Valid.{sharedValid}
 use Rattle.lock.proofs.shared_valid.Statement.{statement}
 use Rattle.lock.proofs.shared_valid.Tie as tie
 
-in-size-requires : tie.Need-in-size-requires
-in-size-requires c κs = search needs
-
-none-from-requires : tie.Need-none-from-requires
-none-from-requires c κs = search needs
-
 returns : tie.Need-returns
 unfolding sharedValid
 returns c =
@@ -18,4 +12,4 @@ returns c =
     rw (c .none-from .ensures, size .in-size .ensures)
 
 pub shared-valid-spec : {M : Type 1} → statement M
-shared-valid-spec = tie.close (tie.spec in-size-requires none-from-requires returns)
+shared-valid-spec = tie.close (tie.spec (λ c κs. search needs) (λ c κs. search needs) returns)

@@ -19,9 +19,6 @@ Inv-loop s nodes threads ok₀ i₀ ok i = (i ≤ tableSize) × (ok ≡ upTo (th
 abbrev μ-loop : tie.MeasureT-loop
 μ-loop s nodes threads ok₀ i₀ ok i = i
 
-cast-i : tie.Need-cast-i Inv-loop μ-loop
-cast-i c = search needs
-
 loop-holds : tie.Need-loop-holds Inv-loop μ-loop
 loop-holds c =
     let s = c .args .t1 in
@@ -29,27 +26,6 @@ loop-holds c =
     let T = s .shared .threads in
     let h : length (s .thread) ≡ tableSize = search length-mapped in
     (search needs, judged-none (threadInRange K) threadIsZero T (s .thread) tableSize (omega arith))
-
-sub-i : tie.Need-sub-i Inv-loop μ-loop
-sub-i c = search needs
-
-mul-v : tie.Need-mul-v Inv-loop μ-loop
-mul-v c = search needs
-
-element-copy-out-v : tie.Need-element-copy-out-v Inv-loop μ-loop
-element-copy-out-v c = search needs
-
-thread-in-range-requires : tie.Need-thread-in-range-requires Inv-loop μ-loop
-thread-in-range-requires c κs = search needs
-
-thread-is-zero-requires : tie.Need-thread-is-zero-requires Inv-loop μ-loop
-thread-is-zero-requires c κs = search needs
-
-pick-up-to-requires : tie.Need-pick-up-to-requires Inv-loop μ-loop
-pick-up-to-requires c κs = search needs
-
-loop-less : tie.Need-loop-less Inv-loop μ-loop
-loop-less c = search needs
 
 loop-again : tie.Need-loop-again Inv-loop μ-loop
 loop-again c =
@@ -74,16 +50,6 @@ pub threads-valid-spec : {M : Type 1} → statement M
 threads-valid-spec =
     tie.close
     (tie.spec
-    Inv-loop
-    μ-loop
-    cast-i
-    loop-holds
-    sub-i
-    mul-v
-    element-copy-out-v
-    thread-in-range-requires
-    thread-is-zero-requires
-    pick-up-to-requires
-    loop-less
-    loop-again
-    returns)
+    Inv-loop μ-loop (λ c. search needs) loop-holds (λ c. search needs) (λ c. search needs)
+    (λ c. search needs) (λ c κs. search needs) (λ c κs. search needs) (λ c κs. search needs)
+    (λ c. search needs) loop-again returns)

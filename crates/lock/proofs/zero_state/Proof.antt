@@ -3,14 +3,8 @@ use borrow.Author.Needs.{needs}
 use Rattle.lock.proofs.zero_state.Statement.{statement}
 use Rattle.lock.proofs.zero_state.Tie as tie
 
-zero-node-requires : tie.Need-zero-node-requires
-zero-node-requires c κs = search needs
-
-zero-thread-requires : tie.Need-zero-thread-requires
-zero-thread-requires c κs = search needs
-
 returns : tie.Need-returns
 returns c = simp (c .zero-thread .ensures, c .before .zero-node .ensures)
 
 pub zero-state-spec : {M : Type 1} → statement M
-zero-state-spec = tie.close (tie.spec zero-node-requires zero-thread-requires returns)
+zero-state-spec = tie.close (tie.spec (λ c κs. search needs) (λ c κs. search needs) returns)

@@ -54,14 +54,5 @@ pub put-times-spec : {M : Type 1} → statement M
 put-times-spec =
     tie.close
     (tie.spec
-    Inv-loop
-    μ-loop
-    loop-holds
-    mul-put
-    add-put
-    put-requires
-    (λ c. search needs)
-    (λ c. search needs)
-    loop-again
-    (λ c. search needs)
-    returns)
+    Inv-loop μ-loop loop-holds mul-put add-put put-requires (λ c. search needs) (λ c. search needs)
+    loop-again (λ c. search needs) returns)

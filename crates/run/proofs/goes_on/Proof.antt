@@ -3,11 +3,8 @@ use borrow.Author.Needs.{needs}
 use Rattle.run.proofs.goes_on.Statement.{statement}
 use Rattle.run.proofs.goes_on.Tie as tie
 
-waits-requires : tie.Need-waits-requires
-waits-requires c κs = search needs
-
 returns : tie.Need-returns
 returns c = simp (c .waits .ensures)
 
 pub goes-on-spec : {M : Type 1} → statement M
-goes-on-spec = tie.close (tie.spec waits-requires returns)
+goes-on-spec = tie.close (tie.spec (λ c κs. search needs) returns)

@@ -12,6 +12,4 @@ returns-2 c = rw (sym (c .before .waits .ensures) ∙ c .if1 .left)
 
 pub more-waited-spec : {M : Type 1} → statement M
 more-waited-spec =
-    tie.close
-    (tie.spec
-    (λ c κs. search needs) returns returns-2)
+    tie.close (tie.spec (λ c κs. search needs) returns returns-2)

@@ -11,15 +11,6 @@ use Rattle.run.specs.Run.{upToEnd}
 use Rattle.run.proofs.part_from.Statement.{statement}
 use Rattle.run.proofs.part_from.Tie as tie
 
-sub-result : tie.Need-sub-result
-sub-result c = search needs
-
-part-result-start : tie.Need-part-result-start
-part-result-start c = search needs
-
-part-result-end : tie.Need-part-result-end
-part-result-end c = search needs
-
 returns : tie.Need-returns
 returns c =
     let a = c .before .before .args in
@@ -27,15 +18,6 @@ returns c =
     let there : upToEnd (a .at) b ≡ a .at = omega arith in
     let all = take-all (length b - a .at) (drop (a .at) b) (simp length-drop (omega arith)) in
     rw there (all, λ i. (a .schedule .ptr .0, add-comm (a .at) (a .schedule .ptr .1) i))
-
-sub-result-2 : tie.Need-sub-result-2
-sub-result-2 c = search needs
-
-part-result-start-2 : tie.Need-part-result-start-2
-part-result-start-2 c = search needs
-
-part-result-end-2 : tie.Need-part-result-end-2
-part-result-end-2 c = search needs
 
 returns-2 : tie.Need-returns-2
 returns-2 c =
@@ -48,11 +30,5 @@ pub part-from-spec : {M : Type 1} → statement M
 part-from-spec =
     tie.close
     (tie.spec
-    sub-result
-    part-result-start
-    part-result-end
-    returns
-    sub-result-2
-    part-result-start-2
-    part-result-end-2
-    returns-2)
+    (λ c. search needs) (λ c. search needs) (λ c. search needs) returns (λ c. search needs)
+    (λ c. search needs) (λ c. search needs) returns-2)

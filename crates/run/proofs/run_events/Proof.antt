@@ -194,24 +194,7 @@ pub run-events-spec : {M : Type 1} → statement M
 run-events-spec =
     tie.close
     (tie.spec
-    Inv-loop
-    μ-loop
-    (λ c κs. search needs)
-    loop-holds
-    (λ c κs. search needs)
-    event-requires
-    slice-write-answers
-    (λ c κs. search needs)
-    tallied-requires
-    same-length
-    same-length-2
-    returns
-    (λ c κs. search needs)
-    add-waited
-    add-i
-    loop-less
-    loop-again
-    tallied-requires-2
-    (λ c. c .before .before .loop .inv .2 .long)
-    (λ c. long (c .before .before))
-    returns-2)
+    Inv-loop μ-loop (λ c κs. search needs) loop-holds (λ c κs. search needs) event-requires
+    slice-write-answers (λ c κs. search needs) tallied-requires same-length same-length-2 returns
+    (λ c κs. search needs) add-waited add-i loop-less loop-again tallied-requires-2
+    (λ c. c .before .before .loop .inv .2 .long) (λ c. long (c .before .before)) returns-2)

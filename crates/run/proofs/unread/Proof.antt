@@ -9,21 +9,12 @@ use Rattle.run.specs.Run.{unreadFrom, upToEnd}
 use Rattle.run.proofs.unread.Statement.{statement}
 use Rattle.run.proofs.unread.Tie as tie
 
-part-from-requires : tie.Need-part-from-requires
-part-from-requires c κs = search needs
-
 returns : tie.Need-returns
 unfolding unreadFrom
 returns c =
     let b = c .before .before .before .before .args .schedule .now in
     let at-end : upToEnd (length b) b ≡ length b = omega arith in
     rw (eq-eqb _ _ (c .before .if1 .taken)) (rw at-end at (c .part-from .ensures))
-
-before-events-requires : tie.Need-before-events-requires
-before-events-requires c κs = search needs
-
-part-from-requires-2 : tie.Need-part-from-requires-2
-part-from-requires-2 c κs = search needs
 
 returns-2 : tie.Need-returns-2
 unfolding unreadFrom
@@ -33,27 +24,6 @@ returns-2 c =
     let low = sym (stop .before-events .ensures) ∙ c .before .if2 .taken in
     let at-start : upToEnd 0 b ≡ 0 = omega arith in
     rw (ne-eqb _ _ (stop .before .if1 .left), low) (rw at-start at (c .part-from2 .ensures))
-
-cast-taken : tie.Need-cast-taken
-cast-taken c = search needs
-
-cast-taken-2 : tie.Need-cast-taken-2
-cast-taken-2 c = search needs
-
-add-taken : tie.Need-add-taken
-add-taken c = search needs
-
-add-taken-2 : tie.Need-add-taken-2
-add-taken-2 c = search needs
-
-mul-part-from : tie.Need-mul-part-from
-mul-part-from c = search needs
-
-add-part-from : tie.Need-add-part-from
-add-part-from c = search needs
-
-part-from-requires-3 : tie.Need-part-from-requires-3
-part-from-requires-3 c κs = search needs
 
 returns-3 : tie.Need-returns-3
 unfolding unreadFrom
@@ -66,16 +36,6 @@ pub unread-spec : {M : Type 1} → statement M
 unread-spec =
     tie.close
     (tie.spec
-    part-from-requires
-    returns
-    before-events-requires
-    part-from-requires-2
-    returns-2
-    cast-taken
-    cast-taken-2
-    add-taken
-    add-taken-2
-    mul-part-from
-    add-part-from
-    part-from-requires-3
-    returns-3)
+    (λ c κs. search needs) returns (λ c κs. search needs) (λ c κs. search needs) returns-2
+    (λ c. search needs) (λ c. search needs) (λ c. search needs) (λ c. search needs) (λ c. search needs)
+    (λ c. search needs) (λ c κs. search needs) returns-3)

@@ -16,12 +16,6 @@ returns c =
     let b = c .before .before .args .bytes .now in
     rw (ne-eqb (length b) (size (headerIn b .threads) (headerIn b .nodes)) (λ e. omega arith))
 
-header-in-requires : tie.Need-header-in-requires
-header-in-requires c κs = search needs
-
-size-requires : tie.Need-size-requires
-size-requires c κs = search needs
-
 -- the size that the header's numbers ask for
 asked : (c : tie.After-size) → let b = c .before .before .before .before .args .bytes .now in c .size .result ≡ size (headerIn b .threads) (headerIn b .nodes)
 asked c = c .size .ensures ∙ ap (λ (sh : Shared). size (sh .threads) (sh .nodes)) (c .before .header-in .ensures)
@@ -29,27 +23,6 @@ asked c = c .size .ensures ∙ ap (λ (sh : Shared). size (sh .threads) (sh .nod
 returns-2 : tie.Need-returns-2
 unfolding goodBy
 returns-2 c = rw (ne-eqb _ _ (λ e. c .if2 .taken (e ∙ sym (asked (c .before)))))
-
-rest-requires : tie.Need-rest-requires
-rest-requires c κs = search needs
-
-threads-place-requires : tie.Need-threads-place-requires
-threads-place-requires c κs = search needs
-
-rest-requires-2 : tie.Need-rest-requires-2
-rest-requires-2 c κs = search needs
-
-marked-requires : tie.Need-marked-requires
-marked-requires c κs = search needs
-
-shared-valid-requires : tie.Need-shared-valid-requires
-shared-valid-requires c κs = search needs
-
-nodes-good-requires : tie.Need-nodes-good-requires
-nodes-good-requires c κs = search needs
-
-threads-good-requires : tie.Need-threads-good-requires
-threads-good-requires c κs = search needs
 
 returns-3 : tie.Need-returns-3
 unfolding goodBy
@@ -71,15 +44,6 @@ pub good-spec : {M : Type 1} → statement M
 good-spec =
     tie.close
     (tie.spec
-    returns
-    header-in-requires
-    size-requires
-    returns-2
-    rest-requires
-    threads-place-requires
-    rest-requires-2
-    marked-requires
-    shared-valid-requires
-    nodes-good-requires
-    threads-good-requires
-    returns-3)
+    returns (λ c κs. search needs) (λ c κs. search needs) returns-2 (λ c κs. search needs)
+    (λ c κs. search needs) (λ c κs. search needs) (λ c κs. search needs) (λ c κs. search needs)
+    (λ c κs. search needs) (λ c κs. search needs) returns-3)

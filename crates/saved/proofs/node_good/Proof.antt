@@ -3,17 +3,8 @@ use borrow.Author.Needs.{needs}
 use Rattle.saved.proofs.node_good.Statement.{statement}
 use Rattle.saved.proofs.node_good.Tie as tie
 
-marked-requires : tie.Need-marked-requires
-marked-requires c κs = search needs
-
-node-in-requires : tie.Need-node-in-requires
-node-in-requires c κs = search needs
-
-node-in-range-requires : tie.Need-node-in-range-requires
-node-in-range-requires c κs = search needs
-
 returns : tie.Need-returns
 returns c = simp (c .node-in-range .ensures, c .before .node-in .ensures, c .before .before .marked .ensures)
 
 pub node-good-spec : {M : Type 1} → statement M
-node-good-spec = tie.close (tie.spec marked-requires node-in-requires node-in-range-requires returns)
+node-good-spec = tie.close (tie.spec (λ c κs. search needs) (λ c κs. search needs) (λ c κs. search needs) returns)

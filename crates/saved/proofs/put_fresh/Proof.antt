@@ -46,18 +46,7 @@ pub put-fresh-spec : {M : Type 1} → statement M
 put-fresh-spec =
     tie.close
     (tie.spec
-    (λ c κs. search needs)
-    (λ c κs. search needs)
-    (λ c κs. search needs)
-    (λ c κs. search needs)
-    (λ c κs. search needs)
-    (λ c κs. search needs)
-    (λ c. search needs)
-    (λ c κs. search needs)
-    (λ c. search needs)
-    put-times-requires
-    (λ c κs. search needs)
-    (λ c. search needs)
-    put-times-requires-2
-    (λ c. search needs)
-    returns)
+    (λ c κs. search needs) (λ c κs. search needs) (λ c κs. search needs) (λ c κs. search needs)
+    (λ c κs. search needs) (λ c κs. search needs) (λ c. search needs) (λ c κs. search needs)
+    (λ c. search needs) put-times-requires (λ c κs. search needs) (λ c. search needs) put-times-requires-2
+    (λ c. search needs) returns)

@@ -22,39 +22,12 @@ Inv-loop out₀ s count i₀ out i =
 abbrev μ-loop : tie.MeasureT-loop
 μ-loop out₀ s count i₀ out i = count - i
 
-cast-count : tie.Need-cast-count Inv-loop μ-loop
-cast-count c = search needs
-
 loop-holds : tie.Need-loop-holds Inv-loop μ-loop
 unfolding laid
 loop-holds c = (search needs, refl, refl)
 
-mul-node-bytes : tie.Need-mul-node-bytes Inv-loop μ-loop
-mul-node-bytes c = search needs
-
-element-copy-out-node-bytes : tie.Need-element-copy-out-node-bytes Inv-loop μ-loop
-element-copy-out-node-bytes c = search needs
-
-node-bytes-requires : tie.Need-node-bytes-requires Inv-loop μ-loop
-node-bytes-requires c κs = search needs
-
-mul-put : tie.Need-mul-put Inv-loop μ-loop
-mul-put c = search needs
-
-add-put : tie.Need-add-put Inv-loop μ-loop
-add-put c = search needs
-
-slice-aggregate-put : tie.Need-slice-aggregate-put Inv-loop μ-loop
-slice-aggregate-put c = search needs
-
 put-requires : tie.Need-put-requires Inv-loop μ-loop
 put-requires c κs = omega (arith, ap length (c .before .before .node-bytes .ensures))
-
-add-i : tie.Need-add-i Inv-loop μ-loop
-add-i c = search needs
-
-loop-less : tie.Need-loop-less Inv-loop μ-loop
-loop-less c = search needs
 
 -- the table's length, as its type says it
 table-full : (c : tie.Start Inv-loop μ-loop) → length (c .args .t1 .node) ≡ tableSize
@@ -72,9 +45,6 @@ loop-again c =
       c .before .before .put .kept .0 ∙ l .inv .2,
     )
 
-same-length : tie.Need-same-length Inv-loop μ-loop
-same-length c = search needs
-
 returns : tie.Need-returns Inv-loop μ-loop
 returns c =
     let e : c .before .loop .i ≡ c .before .before .before .args .t1 .shared .nodes = omega arith in
@@ -84,19 +54,6 @@ pub put-nodes-spec : {M : Type 1} → statement M
 put-nodes-spec =
     tie.close
     (tie.spec
-    Inv-loop
-    μ-loop
-    cast-count
-    loop-holds
-    mul-node-bytes
-    element-copy-out-node-bytes
-    node-bytes-requires
-    mul-put
-    add-put
-    slice-aggregate-put
-    put-requires
-    add-i
-    loop-less
-    loop-again
-    same-length
-    returns)
+    Inv-loop μ-loop (λ c. search needs) loop-holds (λ c. search needs) (λ c. search needs)
+    (λ c κs. search needs) (λ c. search needs) (λ c. search needs) (λ c. search needs) put-requires
+    (λ c. search needs) (λ c. search needs) loop-again (λ c. search needs) returns)

@@ -7,24 +7,6 @@ use Rattle.saved.specs.Proof.Size.{stored-parts}
 use Rattle.saved.proofs.put_state.Statement.{statement}
 use Rattle.saved.proofs.put_state.Tie as tie
 
-header-bytes-requires : tie.Need-header-bytes-requires
-header-bytes-requires c κs = search needs
-
-slice-aggregate-put : tie.Need-slice-aggregate-put
-slice-aggregate-put c = search needs
-
-put-requires : tie.Need-put-requires
-put-requires c κs = search needs
-
-put-nodes-requires : tie.Need-put-nodes-requires
-put-nodes-requires c κs = search needs
-
-put-threads-requires : tie.Need-put-threads-requires
-put-threads-requires c κs = search needs
-
-same-length : tie.Need-same-length
-same-length c = search needs
-
 -- the tables' lengths, as their types say them
 sized : (c : tie.Start) → Sized (c .args .s)
 sized c = record { nodes = search length-mapped; threads = search length-mapped }
@@ -42,10 +24,5 @@ pub put-state-spec : {M : Type 1} → statement M
 put-state-spec =
     tie.close
     (tie.spec
-    header-bytes-requires
-    slice-aggregate-put
-    put-requires
-    put-nodes-requires
-    put-threads-requires
-    same-length
-    returns)
+    (λ c κs. search needs) (λ c. search needs) (λ c κs. search needs) (λ c κs. search needs)
+    (λ c κs. search needs) (λ c. search needs) returns)

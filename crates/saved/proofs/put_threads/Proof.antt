@@ -22,42 +22,12 @@ Inv-loop out₀ s from count i₀ out i =
 abbrev μ-loop : tie.MeasureT-loop
 μ-loop out₀ s from count i₀ out i = count - i
 
-threads-place-requires : tie.Need-threads-place-requires Inv-loop μ-loop
-threads-place-requires c κs = search needs
-
-cast-count : tie.Need-cast-count Inv-loop μ-loop
-cast-count c = search needs
-
 loop-holds : tie.Need-loop-holds Inv-loop μ-loop
 unfolding laid
 loop-holds c = (search needs, refl, refl)
 
-mul-thread-bytes : tie.Need-mul-thread-bytes Inv-loop μ-loop
-mul-thread-bytes c = search needs
-
-element-copy-out-thread-bytes : tie.Need-element-copy-out-thread-bytes Inv-loop μ-loop
-element-copy-out-thread-bytes c = search needs
-
-thread-bytes-requires : tie.Need-thread-bytes-requires Inv-loop μ-loop
-thread-bytes-requires c κs = search needs
-
-mul-put : tie.Need-mul-put Inv-loop μ-loop
-mul-put c = search needs
-
-add-put : tie.Need-add-put Inv-loop μ-loop
-add-put c = search needs
-
-slice-aggregate-put : tie.Need-slice-aggregate-put Inv-loop μ-loop
-slice-aggregate-put c = search needs
-
 put-requires : tie.Need-put-requires Inv-loop μ-loop
 put-requires c κs = omega (arith, ap length (c .before .before .thread-bytes .ensures))
-
-add-i : tie.Need-add-i Inv-loop μ-loop
-add-i c = search needs
-
-loop-less : tie.Need-loop-less Inv-loop μ-loop
-loop-less c = search needs
 
 -- the table's length, as its type says it
 table-full : (c : tie.Start Inv-loop μ-loop) → length (c .args .t1 .thread) ≡ tableSize
@@ -76,9 +46,6 @@ loop-again c =
       c .before .before .put .kept .0 ∙ l .inv .2,
     )
 
-same-length : tie.Need-same-length Inv-loop μ-loop
-same-length c = search needs
-
 returns : tie.Need-returns Inv-loop μ-loop
 returns c =
     let e : c .before .loop .i ≡ c .before .before .before .before .args .t1 .shared .threads = omega arith in
@@ -88,20 +55,6 @@ pub put-threads-spec : {M : Type 1} → statement M
 put-threads-spec =
     tie.close
     (tie.spec
-    Inv-loop
-    μ-loop
-    threads-place-requires
-    cast-count
-    loop-holds
-    mul-thread-bytes
-    element-copy-out-thread-bytes
-    thread-bytes-requires
-    mul-put
-    add-put
-    slice-aggregate-put
-    put-requires
-    add-i
-    loop-less
-    loop-again
-    same-length
-    returns)
+    Inv-loop μ-loop (λ c κs. search needs) (λ c. search needs) loop-holds (λ c. search needs)
+    (λ c. search needs) (λ c κs. search needs) (λ c. search needs) (λ c. search needs) (λ c. search needs)
+    put-requires (λ c. search needs) (λ c. search needs) loop-again (λ c. search needs) returns)

@@ -7,15 +7,6 @@ use borrow.Author.Needs.{needs}
 use Rattle.saved.proofs.rest.Statement.{statement}
 use Rattle.saved.proofs.rest.Tie as tie
 
-sub-result : tie.Need-sub-result
-sub-result c = search needs
-
-part-result-start : tie.Need-part-result-start
-part-result-start c = search needs
-
-part-result-end : tie.Need-part-result-end
-part-result-end c = search needs
-
 returns : tie.Need-returns
 returns c =
     let a = c .before .args in
@@ -23,4 +14,4 @@ returns c =
     (take-all (length (a .b .now) - a .at) part (simp length-drop (omega arith)), c .result .given .2)
 
 pub rest-spec : {M : Type 1} → statement M
-rest-spec = tie.close (tie.spec sub-result part-result-start part-result-end returns)
+rest-spec = tie.close (tie.spec (λ c. search needs) (λ c. search needs) (λ c. search needs) returns)

@@ -35,14 +35,8 @@ header-in-requires c κs = omega (arith, file (c .before) .exact)
 rest-requires : tie.Need-rest-requires
 rest-requires c κs = omega (arith, file (c .before .before) .exact)
 
-threads-place-requires : tie.Need-threads-place-requires
-threads-place-requires c κs = search needs
-
 rest-requires-2 : tie.Need-rest-requires-2
 rest-requires-2 c κs = omega (arith, fits (c .before .before))
-
-zero-state-requires : tie.Need-zero-state-requires
-zero-state-requires c κs = search needs
 
 with-nodes-requires : tie.Need-with-nodes-requires
 with-nodes-requires c κs = omega (arith, fits (c .before .before .before .before))
@@ -68,11 +62,5 @@ pub state-in-spec : {M : Type 1} → statement M
 state-in-spec =
     tie.close
     (tie.spec
-    header-in-requires
-    rest-requires
-    threads-place-requires
-    rest-requires-2
-    zero-state-requires
-    with-nodes-requires
-    with-threads-requires
-    returns)
+    header-in-requires rest-requires (λ c κs. search needs) rest-requires-2 (λ c κs. search needs)
+    with-nodes-requires with-threads-requires returns)

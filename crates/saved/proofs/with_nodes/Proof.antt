@@ -20,33 +20,9 @@ Inv-loop b filled₀ n i₀ filled i = (i ≤ n) × (filled ≡ withNodes filled
 abbrev μ-loop : tie.MeasureT-loop
 μ-loop b filled₀ n i₀ filled i = n - i
 
-cast-n : tie.Need-cast-n Inv-loop μ-loop
-cast-n c = search needs
-
 loop-holds : tie.Need-loop-holds Inv-loop μ-loop
 unfolding values
 loop-holds c = (search needs, refl)
-
-mul-rest : tie.Need-mul-rest Inv-loop μ-loop
-mul-rest c = search needs
-
-rest-requires : tie.Need-rest-requires Inv-loop μ-loop
-rest-requires c κs = search needs
-
-node-in-requires : tie.Need-node-in-requires Inv-loop μ-loop
-node-in-requires c κs = search needs
-
-mul-v : tie.Need-mul-v Inv-loop μ-loop
-mul-v c = search needs
-
-element-set-from-v : tie.Need-element-set-from-v Inv-loop μ-loop
-element-set-from-v c = search needs
-
-add-i : tie.Need-add-i Inv-loop μ-loop
-add-i c = search needs
-
-loop-less : tie.Need-loop-less Inv-loop μ-loop
-loop-less c = search needs
 
 -- the table's length, as its type says it
 table-full : (c : tie.Start Inv-loop μ-loop) → length (c .args .s .node) ≡ tableSize
@@ -72,16 +48,6 @@ pub with-nodes-spec : {M : Type 1} → statement M
 with-nodes-spec =
     tie.close
     (tie.spec
-    Inv-loop
-    μ-loop
-    cast-n
-    loop-holds
-    mul-rest
-    rest-requires
-    node-in-requires
-    mul-v
-    element-set-from-v
-    add-i
-    loop-less
-    loop-again
-    returns)
+    Inv-loop μ-loop (λ c. search needs) loop-holds (λ c. search needs) (λ c κs. search needs)
+    (λ c κs. search needs) (λ c. search needs) (λ c. search needs) (λ c. search needs) (λ c. search needs)
+    loop-again returns)
