@@ -1,6 +1,7 @@
-// Questions about a state: its status, how many threads wait, how many nodes are in use, and the chain of nodes that starts at one. Each
-// is answered on the bytes of a saved state, which are read where they stand and judged first; a state by value is judged, laid into a
-// buffer, and answered there. Rests on `cells` for the bytes, on `saved` and `lock` for judging, and on `lines` for the table.
+// Questions about a state: its status, how many threads wait, how many nodes are in use, and the chain of
+// nodes that starts at one. Each is answered on the bytes of a saved state, which are read where they stand
+// and judged first; a state by value is judged, laid into a buffer, and answered there. Rests on `cells`
+// for the bytes, on `saved` and `lock` for judging, and on `lines` for the table.
 ghost use mathlib.Core.Bool.{cond, true};
 ghost use mathlib.Core.Path.{_≡_};
 ghost use Prim.Native.Nat.{_≤_};
@@ -156,7 +157,8 @@ fn value_of(b: &[u8], question: Question) -> u8
 
 // ---- the chain, of a saved state that was judged before
 
-// Writes node k, its next, and so on to the start of `out`: at most `left` of them, ending before 0. Gives how many.
+// Writes node k, its next, and so on to the start of `out`: at most `left` of them, ending before 0. Gives
+// how many.
 fn chain_from(b: &[u8], k: NodeNo, left: u8, out: &mut [u8]) -> u8
     requires { ⌜ (savedGood (now b) ≡ true) × (k .0 ≤ stateIn (now b) .shared .nodes) × (left ≤ length (now out)) ⌝ }
     ensures { λ r. ⌜ (r ≡ length (chainFrom left (stateIn (now (b .entry))) k))
@@ -175,7 +177,8 @@ fn chain_from(b: &[u8], k: NodeNo, left: u8, out: &mut [u8]) -> u8
     n + 1
 }
 
-// The node `from`, its next, and so on, ending before 0 or after K nodes, at the start of `out`: 4 and 6, the first that applies.
+// The node `from`, its next, and so on, ending before 0 or after K nodes, at the start of `out`: 4 and 6,
+// the first that applies.
 fn chain_of(b: &[u8], from: NodeNo, out: &mut [u8]) -> Asked
     requires { ⌜ savedGood (now b) ≡ true ⌝ }
     ensures { λ r. ⌜ (r ≡ chainAsked (stateIn (now (b .entry))) from (now (out .entry)))
@@ -263,7 +266,8 @@ pub fn in_use(s: State) -> Asked
     of_state(s, Question::InUse)
 }
 
-// The node `from`, its next, and so on, ending before 0 or after K nodes, at the start of `out`. Gives how many.
+// The node `from`, its next, and so on, ending before 0 or after K nodes, at the start of `out`. Gives how
+// many.
 pub fn chain(s: State, from: NodeNo, out: &mut [u8]) -> Asked
     ensures { λ r. ⌜ (r ≡ chainAsked s from (now (out .entry))) × (now (out .exit) ≡ chainBytes s from (now (out .entry))) ⌝ }
 {

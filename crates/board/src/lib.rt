@@ -1,6 +1,6 @@
-// The calls for C and Rust, on saved states in bytes. Each is thin: it hands the bytes to the call of a crate below, which works on them
-// where they stand, and no call has a state by value. A number behind a `&mut` is a result, and is written in every case. Rests on
-// `saved`, `lent`, `run` and `ask`.
+// The calls for C and Rust, on saved states in bytes. Each is thin: it hands the bytes to the call of a
+// crate below, which works on them where they stand, and no call has a state by value. A number behind a
+// `&mut` is a result, and is written in every case. Rests on `saved`, `lent`, `run` and `ask`.
 ghost use mathlib.Core.Path.{_≡_};
 ghost use Rattle.board.specs.Board.{RunGives, askChain, askChainBytes, askInUse, askStatus, askWaiting, checkNumber, freshBytes, freshNumber};
 ghost use Rattle.board.specs.Board.{stepBytes, stepNumber};
@@ -15,7 +15,8 @@ use run::Report;
 
 // ---- a saved state
 
-// The fresh state of T threads and K nodes, saved at the start of `out`: 3 if T or K is not 1 to 32, and then 4 if `out` is too short.
+// The fresh state of T threads and K nodes, saved at the start of `out`: 3 if T or K is not 1 to 32, and
+// then 4 if `out` is too short.
 #[no_mangle]
 pub extern "C" fn sedge_fresh(threads: u8, nodes: u8, out: &mut [u8]) -> u8
     ensures number { λ r. ⌜ r ≡ freshNumber threads nodes (now (out .entry)) ⌝ }
@@ -56,7 +57,8 @@ fn unread_from(schedule: &[u8], report: Report) -> usize
     schedule.len() - part.len()
 }
 
-// A run from the saved state: its stopping number, or 0; 1 to 4 come before the first event and change nothing.
+// A run from the saved state: its stopping number, or 0; 1 to 4 come before the first event and change
+// nothing.
 #[no_mangle]
 pub extern "C" fn sedge_run(
     bytes: &mut [u8],
@@ -108,7 +110,8 @@ pub extern "C" fn sedge_in_use(bytes: &[u8], in_use: &mut u8) -> u8
     asked.number
 }
 
-// The chain of nodes that starts at `from`, at the start of `out`, and its length: 1, 4 and 6, the first that applies.
+// The chain of nodes that starts at `from`, at the start of `out`, and its length: 1, 4 and 6, the first
+// that applies.
 #[no_mangle]
 pub extern "C" fn sedge_chain(bytes: &[u8], from: u8, out: &mut [u8], listed: &mut u8) -> u8
     ensures number { λ r. ⌜ r ≡ askChain (now (bytes .entry)) from (now (out .entry)) .number ⌝ }

@@ -1,7 +1,8 @@
-// The numbers of a saved state, read and stored where they stand in its bytes: each call touches the bytes of one number. In this order:
-// bytes, where a record begins, a number by its place in a record, and then, by name, the shared numbers, those of a node and those of a
-// thread. Every place is known here and nowhere above, and a thread's number never finds a node, nor a node's a thread. Rests on `number`
-// for the kinds of number, and on the layout of crate `saved`.
+// The numbers of a saved state, read and stored where they stand in its bytes: each call touches the bytes
+// of one number. In this order: bytes, where a record begins, a number by its place in a record, and then,
+// by name, the shared numbers, those of a node and those of a thread. Every place is known here and nowhere
+// above, and a thread's number never finds a node, nor a node's a thread. Rests on `number` for the kinds
+// of number, and on `saved` for the layout.
 ghost use Prim.Native.Nat.{_+_, _<_, _≤_};
 ghost use mathlib.Core.Path.{_≡_};
 ghost use lib.ListN.{getD, length};
@@ -14,33 +15,15 @@ ghost use Rattle.figure.specs.Figure.{entered as enteredOf, flag as flagOf, hig
 ghost use Rattle.figure.specs.Figure.{low as lowOf, mess as messOf, my as myOf, next as nextOf, prev as prevOf, succ as succOf, tail as tailOf};
 ghost use Rattle.lock.specs.State.{_⟨node_≔_⟩, _⟨shared≔_⟩, _⟨thread_≔_⟩, nodeAt, threadAt};
 ghost use Rattle.number.specs.Numbers.{node, place};
-ghost use Rattle.saved.specs.Saved.{fourAt, fourBytes, headerBytes, headerWidth, nodeBytes, nodeWidth, threadBytes, threadWidth};
+ghost use Rattle.saved.specs.Saved.{fourBytes, headerBytes, headerWidth, nodeBytes, nodeWidth, threadBytes, threadWidth};
 use number::NodeNo;
 use number::Place;
 use number::ThreadNo;
+use saved::HEADER_WIDTH;
+use saved::NODE_WIDTH;
+use saved::THREAD_WIDTH;
 
-// How many bytes each kind of record has.
-const HEADER_WIDTH: usize = 23;
-
-const NODE_WIDTH: usize = 4;
-
-const THREAD_WIDTH: usize = 11;
-
-// ---- bytes
-
-fn wide(x: u8) -> u32
-    ensures { λ r. ⌜ (r ≡ x) × (r < 256) ⌝ }
-{
-    x as u32
-}
-
-// The number of four bytes, the lowest first, from a place on.
-fn four_at(b: &[u8], at: usize) -> u32
-    requires { ⌜ at + 4 ≤ length (now b) ⌝ }
-    ensures { λ r. ⌜ r ≡ fourAt (now (b .entry)) at ⌝ }
-{
-    wide(b[at]) + 256 * wide(b[at + 1]) + 65_536 * wide(b[at + 2]) + 16_777_216 * wide(b[at + 3])
-}
+// ---- four bytes
 
 // A number in four bytes, the lowest first, from a place on.
 fn put_four(b: &mut [u8], at: usize, n: u32)
@@ -72,7 +55,7 @@ fn thread_place(b: &[u8], t: ThreadNo) -> usize
     HEADER_WIDTH + NODE_WIDTH * (nodes as usize) + THREAD_WIDTH * ((i - 1) as usize)
 }
 
-// ---- byte j of a record, and number i of those of the header that have four bytes. A getter is one of these at a numeral.
+// ---- byte j of a record, and number i of the header's numbers of four bytes; a getter is one at a numeral
 
 fn of_header(b: &[u8], j: usize) -> u8
     requires { ⌜ Laid (now b) × (j < headerWidth) ⌝ }
@@ -99,7 +82,7 @@ fn four_of_header(b: &[u8], i: usize) -> u32
     requires { ⌜ Laid (now b) × (i ≤ 3) ⌝ }
     ensures { λ r. ⌜ ShowsAs place (now (b .entry)) r (λ s. fourOf i (s .shared)) ⌝ }
 {
-    four_at(b, 7 + 4 * i)
+    saved::four_at(b, 7 + 4 * i)
 }
 
 // ---- the same stored, past the mark, T and K. A setter is one of these at a numeral.

@@ -1,6 +1,7 @@
-// One event of a saved state, executed in place: one small function for each thing that a line does, which asks what stops the line, stores only the
-// numbers that the line changes, and goes on to the follow-on line. Which node a line follows, what it waits for and where it goes on to come from
-// its row of the constant table (crate `lines`). Nothing is judged here. Rests on `cells` for the bytes.
+// One event of a saved state, executed in place: one small function for each thing that a line does, which
+// asks what stops the line, stores only the numbers that the line changes, and goes on to the follow-on
+// line. Which node a line follows, what it waits for and where it goes on to come from its row of the
+// constant table (crate `lines`). Nothing is judged here. Rests on `cells` for the bytes.
 ghost use mathlib.Core.Bool.{true};
 ghost use mathlib.Core.Logic.{_≢_};
 ghost use mathlib.Core.Path.{_≡_};
@@ -67,7 +68,8 @@ fn follows_unused(b: &[u8], k: NodeNo) -> bool
     !(k.0 == 0) & !word::in_use(cells::local(b), k)
 }
 
-// 6, 9 and 10, the first that applies, of a line that follows node k and is given node n but chooses none; else `later`.
+// 6, 9 and 10, the first that applies, of a line that follows node k and is given node n but chooses none;
+// else `later`.
 fn follow_stop(b: &[u8], follow: Follow, k: NodeNo, n: NodeNo, later: u8) -> u8
     requires { ⌜ Laid (now b) ⌝ }
     ensures { λ r. ⌜ Shows (now (b .entry)) r (λ s. stopBy follow s k n later) ⌝ }
@@ -113,7 +115,8 @@ fn place_stop(p: Place) -> u8
     number::first(LAST_PLACE <= p.0, NO_PLACE_LEFT, DONE)
 }
 
-// 12: what the line waits for is not so. Where it waits for a number of a node, k is the node that it follows.
+// 12: what the line waits for is not so. Where it waits for a number of a node, k is the node that it
+// follows.
 fn must_wait(b: &[u8], wait: Wait, k: NodeNo) -> bool
     requires { ⌜ Laid (now b) × AtNode wait (HasNode (now b) k) ⌝ }
     ensures { λ r. ⌜ Shows (now (b .entry)) r (λ s. mustStay wait (flagOf s) (nodeAt s k)) ⌝ }
@@ -138,7 +141,8 @@ fn wait_number(wait: Wait) -> u8
     }
 }
 
-// ---- the lines, 11 to 29: each gives the first number that stops it and changes nothing, or does what document 01 says of it and gives 0
+// ---- the lines, 11 to 29: each gives the first number that stops it and changes nothing, or does what
+// document 01 says of it and gives 0
 
 // 11 | my := the event's node, put in use; entered + 1
 fn choose(b: &mut [u8], row: Row, t: ThreadNo, n: NodeNo) -> u8
@@ -221,7 +225,10 @@ fn look_prev(b: &mut [u8], row: Row, t: ThreadNo, n: NodeNo) -> u8
     stop
 }
 
-// 16 | waits until flag is 1; 19 | waits until locked(my) is 0; 23 | waits until next(my) is not 0; 27 | the critical section
+// 16 | waits until flag is 1
+// 19 | waits until locked(my) is 0
+// 23 | waits until next(my) is not 0
+// 27 | the critical section
 fn go_on(b: &mut [u8], row: Row, t: ThreadNo, n: NodeNo) -> u8
     requires { ⌜ Ready (now b) t × AtNode (row .1) (Strict (row .0)) ⌝ }
     ensures { λ r. ⌜ Gives (now (b .entry)) (now (b .exit)) r (λ s. waited row s t n) ⌝ }
@@ -396,7 +403,8 @@ fn pass_on(b: &mut [u8], row: Row, t: ThreadNo, n: NodeNo) -> u8
 
 // ---- the event
 
-// The line of thread t, executed: each line asks for its row by a constant, so that the compiler has the row and looks nothing up.
+// The line of thread t, executed: each line asks for its row by a constant, so that the compiler has the
+// row and looks nothing up.
 fn execute(b: &mut [u8], t: ThreadNo, n: NodeNo) -> u8
     requires { ⌜ Ready (now b) t ⌝ }
     ensures { λ r. ⌜ Gives (now (b .entry)) (now (b .exit)) r (λ s. advanceBy (lineOf s t) s t n) ⌝ }
@@ -433,8 +441,8 @@ pub fn no_thread(b: &[u8], t: ThreadNo) -> bool
     (t.0 == 0) | (cells::threads(b) < t.0)
 }
 
-// One event of a saved state that was judged before: 5 to 12, the first that applies, or 0 and the line's changes, in the bytes where they stand. A
-// refusal changes no byte.
+// One event of a saved state that was judged before: 5 to 12, the first that applies, or 0 and the line's
+// changes, in the bytes where they stand. A refusal changes no byte.
 pub fn event(b: &mut [u8], t: ThreadNo, n: NodeNo) -> u8
     requires { ⌜ savedGood (now b) ≡ true ⌝ }
     ensures { λ r. ⌜ Advanced (now (b .entry)) (now (b .exit)) t n r ⌝ }

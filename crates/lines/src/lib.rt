@@ -1,5 +1,6 @@
-// The constant table of the nineteen lines of Figure 1: for each line the node that it follows, what it waits for, and its follow-on lines.
-// The step, its refusals and the waiting question go by it. What a line does is said where it is done (crate `event`). Rests on `number`.
+// The constant table of the nineteen lines of Figure 1: for each line the node that it follows, what it
+// waits for, and its follow-on lines. The step, its refusals and the waiting question go by it. What a line
+// does is said where it is done (crate `event`). Rests on `number`.
 ghost use Prim.Native.Nat.{_≤_};
 ghost use mathlib.Core.Path.{_≡_};
 ghost use Rattle.number.specs.Sizes.{firstLine, lastLine};
@@ -30,8 +31,8 @@ pub enum Wait {
     ForLink,
 }
 
-// A row: the node that its line follows, what it waits for, the line that it goes on to, and the other one where it looks at a number
-// that is not so.
+// A row: the node that its line follows, what it waits for, the line that it goes on to, and the other one
+// where it looks at a number that is not so.
 pub struct Row(pub Follow, pub Wait, pub u8, pub u8);
 
 // Lines 11 to 29.
@@ -57,7 +58,8 @@ const LINES: [Row; 19] = [
     Row(Succ, NoWait, 11, 11), // 29 | if succ is not 0, locked(succ) := 0, else flag := 1; low + 1
 ];
 
-// The row of a line, at line minus 11. An event asks by a constant, so that the compiler has the row and looks nothing up.
+// The row of a line, at line minus 11. An event asks by a constant, so that the compiler has the row and
+// looks nothing up.
 pub fn row_of(line: u8) -> Row
     requires { ⌜ (firstLine ≤ line) × (line ≤ lastLine) ⌝ }
     ensures { λ r. ⌜ r ≡ rowOf (lineAt line) ⌝ }

@@ -1,5 +1,5 @@
-// The state of the lock, the fresh state, and the rule that a state is held to. What a fresh state is made of is `pub`, for the crate
-// that writes one in bytes (`saved`). Rests on `number` and `word`.
+// The state of the lock, the fresh state, and the rule that a state is held to. What a fresh state is made
+// of is `pub`, for the crate that writes one in bytes (`saved`). Rests on `number` and `word`.
 ghost use Prim.Native.Nat.{_≤_};
 ghost use mathlib.Core.Path.{_≡_};
 ghost use Rattle.number.specs.Sizes.{mostThreads};
@@ -34,7 +34,8 @@ pub struct Thread {
     pub slot: Place,
 }
 
-// The shared numbers: `threads` is T and `nodes` is K; `used` is the word of the nodes in use, the set `local` without ⊥.
+// The shared numbers: `threads` is T and `nodes` is K; `used` is the word of the nodes in use, the set
+// `local` without ⊥.
 pub struct Shared {
     pub threads: u8,
     pub nodes: u8,

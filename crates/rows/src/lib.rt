@@ -1,5 +1,6 @@
-// Records of one width, laid end to end, as saved states and schedules have them: definitions and laws are in specs/. The only code is
-// `put`, the one loop that stores bytes in a lent buffer, and `put_times`, which stores copies of one record by it.
+// Records of one width, laid end to end, as saved states and schedules have them: definitions and laws are
+// in specs/. The only code is `put`, the one loop that stores bytes in a lent buffer, and `put_times`,
+// which stores copies of one record by it.
 ghost use Prim.Native.Nat.{_*_, _+_, _≤_};
 ghost use mathlib.Core.Path.{_≡_};
 ghost use lib.ListN.{length};

@@ -1,5 +1,6 @@
-// A run: the events of a schedule, one after the other, in the bytes of a saved state that is judged once; and the unread part of its
-// schedule. A run by value is made in the bytes of its state. Rests on `schedule`, `saved` and `event`, and in specs/ on `events` and `rows`.
+// A run: the events of a schedule, one after the other, in the bytes of a saved state that is judged once;
+// and the unread part of its schedule. A run by value is made in the bytes of its state. Rests on
+// `schedule`, `saved` and `event`, and in specs/ on `events` and `rows`.
 ghost use Prim.Native.Nat.{_-_, _≤_};
 ghost use mathlib.Core.Bool.{cond, true};
 ghost use mathlib.Core.Path.{_≡_};
@@ -111,8 +112,8 @@ fn tallied(taken: usize, waited: u32, stop: u8) -> Report
 
 // ---- the run
 
-// The events of a good schedule, on the bytes of a saved state that was judged before, with room for each answer. Each is executed in the
-// bytes where they stand.
+// The events of a good schedule, on the bytes of a saved state that was judged before, with room for each
+// answer. Each is executed in the bytes where they stand.
 pub fn run_events(b: &mut [u8], schedule: &[u8], answers: &mut [u8]) -> Report
     requires { ⌜ (savedGood (now b) ≡ true) × (good (now schedule) ≡ true) × (eventsIn (now schedule) ≤ length (now answers)) ⌝ }
     ensures gives { λ r. ⌜ r ≡ ranOver (stateIn (now (b .entry))) (now (schedule .entry)) .report ⌝ }
@@ -159,7 +160,8 @@ fn run_laid(b: &mut [u8], schedule: &[u8], answers: &mut [u8]) -> Ran
     Ran { report, state }
 }
 
-// Refusals 1 to 4 change nothing and give the state as it came; then each event's answer is stored at its place, up to the stop.
+// Refusals 1 to 4 change nothing and give the state as it came; then each event's answer is stored at its
+// place, up to the stop.
 pub fn run(s: State, schedule: &[u8], answers: &mut [u8]) -> Ran
     ensures gives { λ r. ⌜ r ≡ runOf s (now (schedule .entry)) (now (answers .entry)) ⌝ }
     ensures stores { λ r. ⌜ now (answers .exit) ≡ runBytes s (now (schedule .entry)) (now (answers .entry)) ⌝ }
@@ -195,8 +197,9 @@ fn before_events(number: u8) -> bool
     number <= TOO_SHORT
 }
 
-// The unread part of the caller's own schedule: what follows the stopping event, nothing if none stopped the run, the whole of it
-// after refusals 1 to 4. Whatever the report says, it is a part of this schedule, and no copy.
+// The unread part of the caller's own schedule: what follows the stopping event, nothing if none stopped
+// the run, the whole of it after refusals 1 to 4. Whatever the report says, it is a part of this schedule,
+// and no copy.
 pub fn unread<'a>(schedule: &'a [u8], report: Report) -> &'a [u8]
     ensures bytes { λ r. ⌜ now r ≡ unreadOf (now (schedule .entry)) report ⌝ }
     ensures own { λ r. ⌜ r .ptr ≡ onward (schedule .entry .ptr) (unreadFrom (now (schedule .entry)) report) ⌝ }

@@ -1,8 +1,10 @@
-// Saved states: `read` and `save`. In this order: places, the record at the start of a slice, judging, reading, the bytes of a record,
-// writing. A saved state is a header, a record for each node and a record for each thread, one after the other. Readers work on the
-// record at the start of a slice, and encoders give an array, so that neither knows a place: `rest` gives the part of a slice from a
-// place on, and `rows::put` stores bytes from a place on. Calls by value that work on bytes lay their state into a buffer by `laid` and
-// take it up again by `state_in`; `put_fresh` writes the fresh state with no state by value. Rests on `number`, `lock` and `rows`.
+// Saved states: `read` and `save`. In this order: places, the record at the start of a slice, judging,
+// reading, the bytes of a record, writing. A saved state is a header, a record for each node and a record
+// for each thread, one after the other. Readers work on the record at the start of a slice, and encoders
+// give an array, so that neither knows a place: `rest` gives the part of a slice from a place on, and
+// `rows::put` stores bytes from a place on. Calls by value that work on bytes lay their state into a buffer
+// by `laid` and take it up again by `state_in`; `put_fresh` writes the fresh state with no state by value.
+// Rests on `number`, `lock` and `rows`.
 ghost use Prim.Native.Nat.{_*_, _+_, _-_, _<_, _≤_};
 ghost use mathlib.Core.Bool.{true};
 ghost use mathlib.Core.Path.{_≡_};
@@ -29,11 +31,11 @@ use number::Place;
 use number::TOO_SHORT;
 
 // How many bytes each kind of record has.
-const HEADER_WIDTH: usize = 23;
+pub const HEADER_WIDTH: usize = 23;
 
-const NODE_WIDTH: usize = 4;
+pub const NODE_WIDTH: usize = 4;
 
-const THREAD_WIDTH: usize = 11;
+pub const THREAD_WIDTH: usize = 11;
 
 // No saved state has more bytes (`saved-size`).
 pub const MOST_SAVED: usize = 503;
@@ -71,7 +73,7 @@ fn wide(x: u8) -> u32
 }
 
 // The number of four bytes, the lowest first, from a place on.
-fn four_at(b: &[u8], at: usize) -> u32
+pub fn four_at(b: &[u8], at: usize) -> u32
     requires { ⌜ at + 4 ≤ length (now b) ⌝ }
     ensures { λ r. ⌜ r ≡ fourAt (now (b .entry)) at ⌝ }
 {
@@ -179,7 +181,8 @@ fn threads_good(b: &[u8], nodes: u8, threads: u8) -> bool
     ok
 }
 
-// The bytes are a saved state: their length is exact, each record has its mark, and each number is in its range.
+// The bytes are a saved state: their length is exact, each record has its mark, and each number is in its
+// range.
 pub fn good(bytes: &[u8]) -> bool
     ensures { λ r. ⌜ r ≡ savedGood (now (bytes .entry)) ⌝ }
 {

@@ -1,5 +1,6 @@
-// One step of the lock, by value: the state is judged, laid into a local buffer, the event is executed there, and the state is taken up again.
-// Rests on `saved` and `event`; what a step is, and what it promises, stands in specs/ of `machine`.
+// One step of the lock, by value: the state is judged, laid into a local buffer, the event is executed
+// there, and the state is taken up again. Rests on `saved` and `event`; what a step is, and what it
+// promises, stands in specs/ of `machine`.
 ghost use mathlib.Core.Bool.{true};
 ghost use mathlib.Core.Path.{_≡_};
 ghost use Rattle.machine.specs.Step.{advance as advanceOf, step as stepOf};
