@@ -5,9 +5,16 @@ use mathlib.Core.Path.{_≡_}
 use Prim.Native.Nat.{ℕ, _+_, _*_, _≤_}
 use lib.ListN.{length, take}
 use lib.Seq.{sets}
+use Rattle.saved.specs.Saved.{bytesOf}
 use Rattle.schedule.specs.Schedule.{good}
-use Rattle.text.specs.Text.{heading, lastOf, linesOf, textOf}
+use Rattle.text.specs.Text.{begin, heading, lastOf, linesOf, textOf}
+use Rattle.text.specs.declared.Fresh.{Fresh}
 use Rattle.text.specs.declared.Line.{Line}
+
+-- The state that schedule b is run from, in its bytes.
+pub record Begun (fresh : Fresh) (b : List ℕ) : Type 0 where
+  pub within : fresh .size ≤ length (fresh .bytes)
+  pub same : take (fresh .size) (fresh .bytes) ≡ bytesOf (begin b)
 
 -- what no line of the text is longer than: eight numbers of at most ten digits, and a byte behind each
 abbrev pub lineRoom : ℕ
@@ -37,6 +44,10 @@ pub record LineFits (write : Bool) (line : Line) (at : ℕ) (out : List ℕ) : T
 pub record LinesFit (write : Bool) (b out : List ℕ) : Type 0 where
   pub schedule : good b ≡ true
   pub room : write ≡ true → length heading + length (linesOf b) ≤ length out
+
+-- What a pass over the events gives: the place behind the last line, and the lines stored, where they are to be written.
+abbrev pub Passed : Bool → List ℕ → List ℕ → List ℕ → ℕ → Type 0
+Passed write b out₀ out place = (place ≡ length heading + length (linesOf b)) × (out ≡ placed write out₀ (length heading) (linesOf b))
 
 -- The schedule is good, the line is the last of its text, and there is room for the text.
 pub record TextFits (b : List ℕ) (line : Line) (out : List ℕ) : Type 0 where

@@ -1,25 +1,27 @@
-// The text of a run: a schedule's run from fresh, as document 01's lines, in a lent buffer. Rests on `run`, `ask` and `schedule`.
-// The machine is run anew for each pass over the events: once for the end line, once to learn how long the text is, so that a
-// buffer that is too short stays as it was, and once to write.
+// The text of a run: a schedule's run from fresh, as document 01's lines, in a lent buffer. Rests on `run`,
+// `ask` and `schedule`, and for each event and its numbers on `event` and `cells`. The machine is run anew,
+// on the bytes of a fresh saved state, for each pass over the events: once for the end line, once to learn
+// how long the text is, so that a buffer that is too short stays as it was, and once to write.
 ghost use Prim.Native.Nat.{_+_, _≤_};
 ghost use mathlib.Core.Bool.{cond, true};
 ghost use mathlib.Core.List.{[], _++_, _∷_};
 ghost use mathlib.Core.Path.{_≡_};
 ghost use lib.ListN.{length, take};
 ghost use lib.Seq.{sets};
+ghost use Rattle.lock.specs.declared.State.{State};
+ghost use Rattle.machine.specs.Step.{stepped};
 ghost use Rattle.rows.specs.Rows.{over};
+ghost use Rattle.saved.specs.Saved.{bytesOf, savedGood, stateIn};
 ghost use Rattle.schedule.specs.Schedule.{good};
 ghost use Rattle.text.specs.Decimal.{decimal};
-ghost use Rattle.text.specs.Inner.{Held, LineFits, LinesFit, TextFits, placed};
-ghost use Rattle.text.specs.Text.{begin as beginOf, endLine, eventLine, heading, lastOf, lineBefore, lineEnd, linesOf, numbers, space};
+ghost use Rattle.text.specs.Inner.{Begun, Held, LineFits, LinesFit, Passed, TextFits, placed};
+ghost use Rattle.text.specs.Text.{begin as beginOf, eventLine, lastOf, lineBefore, lineEnd, numbers, space};
 ghost use Rattle.text.specs.Text.{refusedText, text as given, textBytes, textOf, written};
 use events::Event;
-use lock::State;
 use number::BAD_SCHEDULE;
 use number::DONE;
 use number::TOO_SHORT;
-use run::Ran;
-use step::Stepped;
+use saved::MOST_SAVED;
 
 // What the call gives: 0 and how many bytes the text has, or the refusal and 0.
 pub struct Written {
@@ -42,6 +44,12 @@ const MOST_EVENTS: usize = 16_383;
 // A line: the first `size` of these bytes.
 struct Line {
     bytes: [u8; LINE_ROOM],
+    size: usize,
+}
+
+// A fresh saved state: the first `size` of these bytes.
+struct Fresh {
+    bytes: [u8; MOST_SAVED],
     size: usize,
 }
 
@@ -98,55 +106,34 @@ fn put_numbers(out: &mut [u8], at: usize, fields: &[u32]) -> usize
 
 // ---- lines
 
-// The line that the event's thread is at; 0 if there is no such thread.
-fn line_before(s: State, e: Event) -> u8
-    ensures { λ r. ⌜ r ≡ lineBefore s e ⌝ }
+// The line that the event's thread is at in a saved state; 0 if there is no such thread.
+fn line_before(b: &[u8], e: Event) -> u8
+    requires { ⌜ savedGood (now b) ≡ true ⌝ }
+    ensures { λ r. ⌜ r ≡ lineBefore (stateIn (now (b .entry))) e ⌝ }
 {
-    if step::no_thread(s.shared.threads, e.thread) {
+    if event::no_thread(b, e.thread) {
         return 0;
     }
-    let v = lock::thread_of(s, e.thread);
-    v.line
+    cells::line(b, e.thread)
 }
 
-// The line of event e, the n-th: s is the state before it, and r its answer with the state after it.
-fn event_line(n: u32, s: State, e: Event, r: Stepped) -> Line
-    ensures { λ l. ⌜ Held l (eventLine n s e r) ⌝ }
+// The line of event e, the n-th: its thread was at `before`, and b is the saved state after it.
+fn event_line(n: u32, e: Event, before: u8, answer: u8, b: &[u8]) -> Line
+    requires { ⌜ savedGood (now b) ≡ true ⌝ }
+    ensures { λ l. ⌜ ((s : State) → before ≡ lineBefore s e → Held l (eventLine n s e (stepped answer (stateIn (now (b .entry)))))) ⌝ }
 {
-    let after = r.state.shared;
-    let before = line_before(s, e);
     let fields = [
         n,
         e.thread.0 as u32,
         before as u32,
-        r.answer as u32,
-        after.tail.0 as u32,
-        after.flag as u32,
-        after.low.0,
-        after.high.0,
+        answer as u32,
+        cells::tail(b).0 as u32,
+        cells::flag(b) as u32,
+        cells::low(b).0,
+        cells::high(b).0,
     ];
     let mut bytes = [0u8; LINE_ROOM];
     let size = put_numbers(&mut bytes, 0, &fields);
-    Line { bytes, size }
-}
-
-// The last line, of what the run reports and the state that it ends in.
-fn end_line(r: Ran) -> Line
-    ensures { λ l. ⌜ Held l (endLine r) ⌝ }
-{
-    let s = r.state;
-    let status = ask::status(s);
-    let waiting = ask::waiting(s);
-    let fields = [
-        r.report.executed,
-        r.report.waited,
-        r.report.stop as u32,
-        status.value as u32,
-        waiting.value as u32,
-    ];
-    let mut bytes = [0u8; LINE_ROOM];
-    rows::put(&mut bytes, 0, b"end ");
-    let size = put_numbers(&mut bytes, 4, &fields);
     Line { bytes, size }
 }
 
@@ -166,32 +153,34 @@ fn put_line(out: &mut [u8], at: usize, line: Line, write: bool) -> usize
 
 // ---- the text
 
-// The state that the schedule is run from.
-fn begin(schedule: &[u8]) -> State
-    ensures { λ r. ⌜ r ≡ beginOf (now (schedule .entry)) ⌝ }
+// The state that a good schedule is run from.
+fn begin(schedule: &[u8]) -> Fresh
+    requires { ⌜ good (now schedule) ≡ true ⌝ }
+    ensures { λ r. ⌜ Begun r (now (schedule .entry)) ⌝ }
 {
     let h = schedule::heading_of(schedule);
-    let opened = lock::fresh(h.threads, h.nodes);
-    opened.state
+    let size = saved::size(h.threads, h.nodes);
+    let mut bytes = [0u8; MOST_SAVED];
+    saved::put_fresh(h.threads, h.nodes, &mut bytes);
+    Fresh { bytes, size }
 }
 
-// One pass over the events: their lines from behind the heading on, where they are to be written. Gives the place behind the last.
-fn event_lines(schedule: &[u8], out: &mut [u8], write: bool) -> usize
-    requires { ⌜ LinesFit write (now schedule) (now out) ⌝ }
-    ensures place { λ r. ⌜ r ≡ length heading + length (linesOf (now (schedule .entry))) ⌝ }
-    ensures lines { λ r. ⌜ now (out .exit) ≡ placed write (now (out .entry)) (length heading) (linesOf (now (schedule .entry))) ⌝ }
+// One pass over the events, on the bytes of the state that they are run from: their lines from behind the
+// heading on, where they are to be written. Gives the place behind the last.
+fn pass(b: &mut [u8], schedule: &[u8], out: &mut [u8], write: bool) -> usize
+    requires { ⌜ (now b ≡ bytesOf (beginOf (now schedule))) × LinesFit write (now schedule) (now out) ⌝ }
+    ensures { λ r. ⌜ Passed write (now (schedule .entry)) (now (out .entry)) (now (out .exit)) r ⌝ }
 {
     let n = schedule::events_in(schedule);
-    let mut s = begin(schedule);
     let mut place = HEADING_LENGTH;
     let mut i = 0;
     while i < n {
         let e = schedule::event_at(schedule, i);
-        let r = step::advance(s, e.thread, e.node);
-        let line = event_line((i + 1) as u32, s, e, r);
+        let before = line_before(b, e);
+        let answer = event::event(b, e.thread, e.node);
+        let line = event_line((i + 1) as u32, e, before, answer, b);
         place = put_line(out, place, line, write);
-        s = r.state;
-        if !run::goes_on(r.answer) {
+        if !run::goes_on(answer) {
             return place;
         }
         i += 1;
@@ -199,14 +188,47 @@ fn event_lines(schedule: &[u8], out: &mut [u8], write: bool) -> usize
     place
 }
 
+// The same, from a fresh state.
+fn event_lines(schedule: &[u8], out: &mut [u8], write: bool) -> usize
+    requires { ⌜ LinesFit write (now schedule) (now out) ⌝ }
+    ensures { λ r. ⌜ Passed write (now (schedule .entry)) (now (out .entry)) (now (out .exit)) r ⌝ }
+{
+    let fresh = begin(schedule);
+    let mut bytes = fresh.bytes;
+    let size = fresh.size;
+    pass(&mut bytes[..size], schedule, out, write)
+}
+
+// The run of a good schedule's events on the bytes of the state that they are run from, and the last line:
+// what the run reports, and what can be asked of the state that it ends in.
+fn end_line(b: &mut [u8], schedule: &[u8]) -> Line
+    requires { ⌜ (now b ≡ bytesOf (beginOf (now schedule))) × (good (now schedule) ≡ true) ⌝ }
+    ensures { λ l. ⌜ Held l (lastOf (now (schedule .entry))) ⌝ }
+{
+    let mut answers = [0u8; MOST_EVENTS];
+    let report = run::run_events(b, schedule, &mut answers);
+    let fields = [
+        report.executed,
+        report.waited,
+        report.stop as u32,
+        ask::status_of(b) as u32,
+        ask::waiting_of(b) as u32,
+    ];
+    let mut bytes = [0u8; LINE_ROOM];
+    rows::put(&mut bytes, 0, b"end ");
+    let size = put_numbers(&mut bytes, 4, &fields);
+    Line { bytes, size }
+}
+
 // The last line of a good schedule's text.
 fn last_line(schedule: &[u8]) -> Line
     requires { ⌜ good (now schedule) ≡ true ⌝ }
     ensures { λ l. ⌜ Held l (lastOf (now (schedule .entry))) ⌝ }
 {
-    let mut answers = [0u8; MOST_EVENTS];
-    let r = run::run(begin(schedule), schedule, &mut answers);
-    end_line(r)
+    let fresh = begin(schedule);
+    let mut bytes = fresh.bytes;
+    let size = fresh.size;
+    end_line(&mut bytes[..size], schedule)
 }
 
 // The whole text of a good schedule at the start of `out`, with its last line.
@@ -233,7 +255,8 @@ pub fn refused_text() -> [u8; 10]
     *b"refused 2\n"
 }
 
-// The text of the schedule's run from fresh, at the start of `out`: 2 if the schedule is bad, then 4 if `out` is too short.
+// The text of the schedule's run from fresh, at the start of `out`: 2 if the schedule is bad, then 4 if
+// `out` is too short.
 pub fn text(schedule: &[u8], out: &mut [u8]) -> Written
     ensures gives { λ r. ⌜ r ≡ given (now (schedule .entry)) (now (out .entry)) ⌝ }
     ensures stores { λ r. ⌜ now (out .exit) ≡ textBytes (now (schedule .entry)) (now (out .entry)) ⌝ }

@@ -28,12 +28,6 @@ module _ (t : ℕ) where
   abbrev calls : lts.Claims
   calls = (and 1 kinds.ps (falls 1 kinds.ps _<_ μ-put-number t) put-number.Pre, put-number.Post)
 
-  cast-out : lts.Need-cast-out calls at put-number.Post
-  cast-out c = search needs
-
-  add-out : lts.Need-add-out calls at put-number.Post
-  add-out c = search needs
-
   -- one digit, and room for it
   one : (c : lts.Then1 calls at put-number.Post) → let a = c .before .before .args in decimal (a .n) ≡ digit (a .n) ∷ []
   one c = decimal-one (c .before .before .args .n) (omega (arith, c .if1 .taken))
@@ -43,9 +37,6 @@ module _ (t : ℕ) where
 
   add-result : lts.Need-add-result calls at put-number.Post
   add-result c = omega (arith, ap length (one c), c .before .before .pre .1)
-
-  same-length : lts.Need-same-length calls at put-number.Post
-  same-length c = search needs
 
   returns : lts.Need-returns calls at put-number.Post
   returns c = rw (one c) (refl, refl)
@@ -61,12 +52,6 @@ module _ (t : ℕ) where
   put-number-requires c κs =
       let start = c .before .before .before in
       omega (arith, more-length start (c .before .if1 .left), start .pre)
-
-  cast-out-2 : lts.Need-cast-out-2 calls at put-number.Post
-  cast-out-2 c = search needs
-
-  add-out-2 : lts.Need-add-out-2 calls at put-number.Post
-  add-out-2 c = search needs
 
   slice-write-out-2 : lts.Need-slice-write-out-2 calls at put-number.Post
   slice-write-out-2 c =
@@ -96,22 +81,8 @@ module _ (t : ℕ) where
   closed : {M : Type 1} → lts.Closed calls at put-number.Post M
   closed =
       lts.spec
-      calls
-      at
-      put-number.Post
-      cast-out
-      add-out
-      slice-write-out
-      add-result
-      same-length
-      returns
-      put-number-requires
-      cast-out-2
-      add-out-2
-      slice-write-out-2
-      add-result-2
-      same-length-2
-      returns-2
+      calls at put-number.Post (λ c. search needs) (λ c. search needs) slice-write-out add-result (λ c. search needs) returns put-number-requires
+      (λ c. search needs) (λ c. search needs) slice-write-out-2 add-result-2 same-length-2 returns-2
 
 pub +put-number-spec : {M : Type 1} → statement M
 +put-number-spec = close μ-put-number (λ t. closed t)

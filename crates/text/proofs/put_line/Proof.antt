@@ -30,9 +30,6 @@ put-requires c κs =
     rw (length-take-le (start .args .line .size) (start .args .line .bytes) (omega (arith, full start, start .pre .within)))
     (start .pre .room (c .before .before .if1 .taken))
 
-add-result : tie.Need-add-result
-add-result c = search needs
-
 same-length : tie.Need-same-length
 same-length c = ⊎-elim (λ w. ap length (w .6) ∙ w .3 .kept .0) (λ w. ap length (w .1)) (c .if1 .came)
 
@@ -44,9 +41,4 @@ pub put-line-spec : {M : Type 1} → statement M
 put-line-spec =
     tie.close
     (tie.spec
-    array-share-prefix-bytes
-    slice-aggregate-put
-    put-requires
-    add-result
-    same-length
-    returns)
+    array-share-prefix-bytes slice-aggregate-put put-requires (λ c. search needs) same-length returns)

@@ -27,18 +27,6 @@ abbrev μ-loop : tie.MeasureT-loop
 loop-holds : tie.Need-loop-holds Inv-loop μ-loop
 loop-holds c = (search needs, refl, refl, refl)
 
-add-more : tie.Need-add-more Inv-loop μ-loop
-add-more c = search needs
-
-mul-put-field : tie.Need-mul-put-field Inv-loop μ-loop
-mul-put-field c = search needs
-
-shared-slice-read-put-field : tie.Need-shared-slice-read-put-field Inv-loop μ-loop
-shared-slice-read-put-field c = search needs
-
-separator-requires : tie.Need-separator-requires Inv-loop μ-loop
-separator-requires c κs = search needs
-
 -- ---- where a field is about to be stored
 abbrev Chosen : Type 0
 Chosen = tie.After-separator Inv-loop μ-loop
@@ -64,12 +52,6 @@ lengths c = simp length-append at (ap length (split c))
 put-field-requires : tie.Need-put-field-requires Inv-loop μ-loop
 put-field-requires c κs = omega (arith, lengths c, loop c .loop .inv, loop c .before .before .before .pre)
 
-add-i : tie.Need-add-i Inv-loop μ-loop
-add-i c = search needs
-
-loop-less : tie.Need-loop-less Inv-loop μ-loop
-loop-less c = search needs
-
 loop-again : tie.Need-loop-again Inv-loop μ-loop
 loop-again c =
     let chosen = c .before .before .before in
@@ -85,9 +67,6 @@ loop-again c =
       put .kept .0 ∙ l .inv .3,
     )
 
-same-length : tie.Need-same-length Inv-loop μ-loop
-same-length c = search needs
-
 returns : tie.Need-returns Inv-loop μ-loop
 returns c =
     let l = c .before .loop in
@@ -101,16 +80,5 @@ pub put-numbers-spec : {M : Type 1} → statement M
 put-numbers-spec =
     tie.close
     (tie.spec
-    Inv-loop
-    μ-loop
-    loop-holds
-    add-more
-    mul-put-field
-    shared-slice-read-put-field
-    separator-requires
-    put-field-requires
-    add-i
-    loop-less
-    loop-again
-    same-length
-    returns)
+    Inv-loop μ-loop loop-holds (λ c. search needs) (λ c. search needs) (λ c. search needs) (λ c κs. search needs) put-field-requires
+    (λ c. search needs) (λ c. search needs) loop-again (λ c. search needs) returns)

@@ -15,9 +15,6 @@ use Rattle.text.specs.Text.{heading, lastOf, linesOf}
 use Rattle.text.proofs.put_text.Statement.{statement}
 use Rattle.text.proofs.put_text.Tie as tie
 
-slice-aggregate-put : tie.Need-slice-aggregate-put
-slice-aggregate-put c = search needs
-
 put-requires : tie.Need-put-requires
 put-requires c κs =
     let start = c .before .before .before .before in
@@ -46,9 +43,6 @@ put-line-requires c κs =
       room = λ w. omega (arith, start .pre .room, text-length b, place, start .pre .last .long, kept, put .put .kept .0);
     }
 
-same-length : tie.Need-same-length
-same-length c = search needs
-
 returns : tie.Need-returns
 unfolding lettersFrom
 returns c =
@@ -70,9 +64,4 @@ pub put-text-spec : {M : Type 1} → statement M
 put-text-spec =
     tie.close
     (tie.spec
-    slice-aggregate-put
-    put-requires
-    event-lines-requires
-    put-line-requires
-    same-length
-    returns)
+    (λ c. search needs) put-requires event-lines-requires put-line-requires (λ c. search needs) returns)

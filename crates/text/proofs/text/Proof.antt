@@ -42,12 +42,6 @@ unfolding placed
 unchanged c = c .event-lines .ensures .1
 
 -- ---- the needs
-good-requires : tie.Need-good-requires
-good-requires c κs = search needs
-
-refused-requires : tie.Need-refused-requires
-refused-requires c κs = search needs
-
 returns : tie.Need-returns
 returns c =
     let a = c .before .before .before .before .before .args in
@@ -65,12 +59,6 @@ add-size c =
     let lines = c .before .before .before in
     let good = judged lines in
     omega (arith, lines .event-lines .ensures .0, lines-near (schedule good) (is-good good), lines .before .before .last-line .ensures .within)
-
-refused-requires-2 : tie.Need-refused-requires-2
-refused-requires-2 c κs = search needs
-
-same-length : tie.Need-same-length
-same-length c = search needs
 
 returns-2 : tie.Need-returns-2
 returns-2 c =
@@ -90,9 +78,6 @@ put-text-requires c κs =
       room = omega (arith, c .before .if2 .left, measured lines);
     }
 
-same-length-2 : tie.Need-same-length-2
-same-length-2 c = search needs
-
 returns-3 : tie.Need-returns-3
 returns-3 c =
     let put = c .before .before in
@@ -110,15 +95,5 @@ pub text-spec : {M : Type 1} → statement M
 text-spec =
     tie.close
     (tie.spec
-    good-requires
-    refused-requires
-    returns
-    last-line-requires
-    event-lines-requires
-    add-size
-    refused-requires-2
-    same-length
-    returns-2
-    put-text-requires
-    same-length-2
-    returns-3)
+    (λ c κs. search needs) (λ c κs. search needs) returns last-line-requires event-lines-requires add-size (λ c κs. search needs) (λ c. search needs)
+    returns-2 put-text-requires (λ c. search needs) returns-3)

@@ -8,7 +8,7 @@ use native.Mathlib.Nat.{mul-suc, mul-zero, zero-add}
 use native.Mathlib.Numerals.{add-one}
 use native.Mathlib.Omega.{arith}
 use lib.Dec.{ltb}
-use lib.ListN.{drop, getD, length, length-append, length-drop}
+use lib.ListN.{drop, getD, length, length-append, length-drop, length-replicate, replicate}
 use lib.Seq.{drop-cons, length-sets, sets, take-append-seam}
 use borrow.Author.Tests.{le-ltb, lt-ltb, ltb-false, ltb-true}
 use Rattle.events.specs.Row.{goesOn}
@@ -132,10 +132,12 @@ module _ (write : Bool) (out : List ℕ) (at : ℕ) where
       go true = length-sets out at p
       go false = refl
 
--- A line that was stored in an array with room for any line: a word at its start, and numbers behind the word.
-pub held : (line : Line) (room word first ns : List ℕ) → length room ≡ lineRoom → length word + 11 * length ns ≤ lineRoom → first ≡ sets room 0 word
-    → line .size ≡ length word + length (numbers ns) → line .bytes ≡ sets first (length word) (numbers ns) → Held line (word ++ numbers ns)
-held line room word first ns full fits begun long stored =
+-- A line that was stored in an array with room for any line: a word at its start, and behind the word numbers that are these.
+pub held : (line : Line) (word first ns : List ℕ) {ns′ : List ℕ} → length word + 11 * length ns ≤ lineRoom → first ≡ sets (replicate lineRoom 0) 0 word
+    → line .size ≡ length word + length (numbers ns) → line .bytes ≡ sets first (length word) (numbers ns) → ns ≡ ns′ → Held line (word ++ numbers ns′)
+held line word first ns fits begun long stored same =
+    let room : List ℕ = replicate lineRoom 0 in
+    let full : length room ≡ lineRoom = length-replicate {A = ℕ} lineRoom 0 in
     let whole : List ℕ = word ++ numbers ns in
     let behind : line .size ≡ length whole = long ∙ sym (length-append word (numbers ns)) in
     let within : length whole ≤ lineRoom = omega (arith, length-append word (numbers ns), numbers-within ns) in
@@ -144,7 +146,7 @@ held line room word first ns full fits begun long stored =
     ∙ ap (λ (o : List ℕ). sets o (length word) (numbers ns)) begun
     ∙ ap (λ (n : ℕ). sets (sets room 0 word) n (numbers ns)) (sym (zero-add (length word)))
     ∙ sym (sets-append room 0 word (numbers ns)) in
-    record {
+    rw (← same) record {
       within = omega arith;
       long = behind;
       same = rw (behind, bytes, sets-over whole room (omega arith)) (take-append-seam whole (drop (length whole) room));
