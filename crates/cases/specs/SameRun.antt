@@ -1,5 +1,5 @@
 -- A complete tool over events that the step accepts: it does what the step does, and so it passes the cases that the step passes. By induction over
--- the events. Rests on `complete-same` and `valid-kept` of Theorems (crate `step`). Assumes nothing.
+-- the events. Rests on `complete-same` and `valid-kept` of Theorems (crate `machine`). Assumes nothing.
 use mathlib.Core.Bool.{false, true, true≢false}
 use mathlib.Core.List.{List, [], _∷_}
 use mathlib.Core.Path.{_≡_, refl, sym, _∙_}

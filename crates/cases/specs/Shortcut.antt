@@ -1,4 +1,4 @@
--- Document 01, "Shortcuts that break the lock", two of them; the others are edits of the crates `lines` and `acts` (must-fail/, .ci/edits/). Rests on SameRun.
+-- Document 01, "Shortcuts that break the lock", two of them; the others are edits of the crates `lines` and `event` (.ci/edits/). Rests on SameRun.
 --
 -- "Calling it free because tail is 0 (P3)": in P3 tail is 0 while thread 1 stands inside.
 --

@@ -1,6 +1,6 @@
 -- Document 01, "How tight the promises are": "Four useless tools are to be tried against the promises". Each is defined here under the document's own
 -- words, and each is shown to break demand 2 by the case that the document names: it fails the case, which is computed, and a complete tool passes it
--- (SameRun.antt). Three of them also accept what Figure 1 does not allow. Rests on SameRun and on Theorems (crate `step`). Assumes nothing.
+-- (SameRun.antt). Three of them also accept what Figure 1 does not allow. Rests on SameRun and on Theorems (crate `machine`). Assumes nothing.
 use mathlib.Core.Bool.{cond, false, true}
 use mathlib.Core.List.{List, _∷_}
 use mathlib.Core.Path.{_≡_, ap, refl}

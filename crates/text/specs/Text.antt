@@ -1,5 +1,5 @@
 -- Document 01, "The printing program and one whole run": the text of a schedule's run from fresh, byte for byte, and what the call that writes it gives.
--- The lines are made from the states and answers of the row of steps (crates `step`, `events`), the end line from the run (crate `run`) and the questions
+-- The lines are made from the states and answers of the row of steps (crates `machine`, `events`), the end line from the run (crate `run`) and the questions
 -- status and waiting (crate `ask`). Assumes nothing.
 use mathlib.Core.Bool.{cond, not}
 use mathlib.Core.List.{List, [], _∷_, _++_}

@@ -1,6 +1,6 @@
 -- What a reached state has, in the words of document 01: the statements of demand 3 about a state. Whether an event is accepted is asked of the step's
 -- conditions (`accepted-exactly`, `exactly-when`), none of which is about how the step is made. Rests on Reached, Shape/Goes and the theorems of the
--- crates `step` and `ask`. Assumes nothing.
+-- crates `machine` and `ask`. Assumes nothing.
 use mathlib.Core.Bool.{Bool, false, true, true≢false, _||_}
 use mathlib.Core.List.{List, [], _∷_}
 use mathlib.Core.Logic.{_≢_, _⊎_, by-cases, ⊎-elim}
