@@ -1,3 +1,3 @@
--- The laws behind the event. Arms: what the functions of the lines share. Good: a saved state is ready for the event of each of its threads.
+-- The laws behind the event. Arms: each arm is the event of the definition. Good: a saved state is ready for the event of each of its threads.
 pub mod Arms
 pub mod Good

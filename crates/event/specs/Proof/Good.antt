@@ -20,7 +20,8 @@ use Rattle.rows.specs.Rows.{Bytes}
 use Rattle.saved.specs.Proof.Held.{bytes-good, held-valid}
 use Rattle.saved.specs.Proof.SaveRead.{save-read}
 use Rattle.saved.specs.Saved.{savedGood, stateBy, stateIn}
-use Rattle.event.specs.Event.{Advanced, Ready}
+use Rattle.acts.specs.Lines.{Ready}
+use Rattle.event.specs.Event.{Advanced}
 
 -- a thread that the state has, has a record
 pub has-thread : (b : List ℕ) (t : ThreadNo) → savedGood b ≡ true → noThread (stateIn b .shared .threads) t ≡ false → HasThread b t

@@ -1,0 +1,2 @@
+-- What the proofs of the acts share.
+pub mod Arms
