@@ -1,9 +1,9 @@
 // One event of a saved state, executed in place: one match on the line, nineteen arms in document 01's
-// order, each naming what the line does (crate `acts`) and asking the constant table for its row by the line
-// itself. Nothing is judged here. Rests on `acts` and `lines`.
+// order, each naming what the line does (crates `acts` and `follows`) and asking the constant table for its
+// row by the line itself. Nothing is judged here. Rests on `acts`, `follows` and `lines`.
 ghost use mathlib.Core.Bool.{true};
 ghost use mathlib.Core.Path.{_≡_};
-ghost use Rattle.acts.specs.Lines.{Gives, Ready};
+ghost use Rattle.refusals.specs.Lines.{Gives, Ready};
 ghost use Rattle.cells.specs.Cells.{Laid, Shows};
 ghost use Rattle.event.specs.Event.{Advanced};
 ghost use Rattle.figure.specs.Figure.{line as lineOf};
@@ -22,24 +22,24 @@ fn execute(b: &mut [u8], t: ThreadNo, n: NodeNo) -> u8
     let line = cells::line(b, t);
     match line {
         11 => acts::choose(b, lines::row_of(11), t, n),
-        12 => acts::clear_next(b, lines::row_of(12), t, n),
-        13 => acts::lock_my(b, lines::row_of(13), t, n),
+        12 => follows::clear_next(b, lines::row_of(12), t, n),
+        13 => follows::lock_my(b, lines::row_of(13), t, n),
         14 => acts::exchange(b, lines::row_of(14), t, n),
         15 => acts::look_prev(b, lines::row_of(15), t, n),
-        16 => acts::go_on(b, lines::row_of(16), t, n),
+        16 => follows::go_on(b, lines::row_of(16), t, n),
         17 => acts::lower_flag(b, lines::row_of(17), t, n),
-        18 => acts::link_prev(b, lines::row_of(18), t, n),
-        19 => acts::go_on(b, lines::row_of(19), t, n),
-        20 => acts::read_next(b, lines::row_of(20), t, n),
+        18 => follows::link_prev(b, lines::row_of(18), t, n),
+        19 => follows::go_on(b, lines::row_of(19), t, n),
+        20 => follows::read_next(b, lines::row_of(20), t, n),
         21 => acts::look_succ(b, lines::row_of(21), t, n),
         22 => acts::close_tail(b, lines::row_of(22), t, n),
-        23 => acts::go_on(b, lines::row_of(23), t, n),
-        24 => acts::read_next(b, lines::row_of(24), t, n),
+        23 => follows::go_on(b, lines::row_of(23), t, n),
+        24 => follows::read_next(b, lines::row_of(24), t, n),
         25 => acts::send_mess(b, lines::row_of(25), t, n),
-        26 => acts::release(b, lines::row_of(26), t, n),
-        27 => acts::go_on(b, lines::row_of(27), t, n),
+        26 => follows::release(b, lines::row_of(26), t, n),
+        27 => follows::go_on(b, lines::row_of(27), t, n),
         28 => acts::take_mess(b, lines::row_of(28), t, n),
-        _ => acts::pass_on(b, lines::row_of(29), t, n),
+        _ => follows::pass_on(b, lines::row_of(29), t, n),
     }
 }
 

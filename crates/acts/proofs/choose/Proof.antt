@@ -3,7 +3,7 @@ use borrow.Author.Needs.{needs}
 use mathlib.Core.Path.{sym, _∙_}
 use native.Mathlib.Omega.{arith}
 use Rattle.refusals.specs.Laws.{entry-left}
-use Rattle.acts.specs.Proof.Arms.{goes, stops}
+use Rattle.refusals.specs.Arms.{goes, stops}
 use Rattle.acts.proofs.choose.Statement.{statement}
 use Rattle.acts.proofs.choose.Tie as tie
 

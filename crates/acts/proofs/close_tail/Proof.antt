@@ -3,7 +3,7 @@ use borrow.Author.Needs.{needs}
 use borrow.Author.Tests.{eq-eqb, ne-eqb}
 use mathlib.Core.Bool.{false, true}
 use mathlib.Core.Path.{_≡_}
-use Rattle.acts.specs.Proof.Arms.{goes, stops}
+use Rattle.refusals.specs.Arms.{goes, stops}
 use Rattle.figure.specs.Figure.{my, tail}
 use Rattle.number.specs.Numbers.{same}
 use Rattle.acts.proofs.close_tail.Statement.{statement}

@@ -1,6 +1,6 @@
 -- `acts::look_succ` meets its contract, by what its stop and its stores ensure. Assumes nothing.
 use borrow.Author.Needs.{needs}
-use Rattle.acts.specs.Proof.Arms.{goes, stops}
+use Rattle.refusals.specs.Arms.{goes, stops}
 use Rattle.acts.proofs.look_succ.Statement.{statement}
 use Rattle.acts.proofs.look_succ.Tie as tie
 

@@ -1,6 +1,6 @@
 -- `acts::lower_flag` meets its contract, by what its stop and its stores ensure. Assumes nothing.
 use borrow.Author.Needs.{needs}
-use Rattle.acts.specs.Proof.Arms.{goes, stops}
+use Rattle.refusals.specs.Arms.{goes, stops}
 use Rattle.acts.proofs.lower_flag.Statement.{statement}
 use Rattle.acts.proofs.lower_flag.Tie as tie
 

@@ -1,6 +1,6 @@
 -- `acts::send_mess` meets its contract, by what its stop and its stores ensure. Assumes nothing.
 use borrow.Author.Needs.{needs}
-use Rattle.acts.specs.Proof.Arms.{goes, stops}
+use Rattle.refusals.specs.Arms.{goes, stops}
 use Rattle.acts.proofs.send_mess.Statement.{statement}
 use Rattle.acts.proofs.send_mess.Tie as tie
 

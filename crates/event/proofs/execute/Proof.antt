@@ -4,9 +4,9 @@ use mathlib.Core.Path.{_≡_}
 use Prim.Native.Nat.{_≤_}
 use native.Mathlib.Omega.{arith}
 use borrow.Author.Needs.{needs}
-use Rattle.acts.specs.Lines.{chosen, exchanged, flagLowered, lockedSet, messSent, messTaken, nextCleared, nextRead, passedOn, prevLinked, prevLooked}
-use Rattle.acts.specs.Lines.{released, succLooked, tailClosed, waited}
-use Rattle.acts.specs.Proof.Arms.{line-from, line-to}
+use Rattle.refusals.specs.Lines.{chosen, exchanged, flagLowered, lockedSet, messSent, messTaken, nextCleared, nextRead, passedOn, prevLinked, prevLooked}
+use Rattle.refusals.specs.Lines.{released, succLooked, tailClosed, waited}
+use Rattle.refusals.specs.Arms.{line-from, line-to}
 use Rattle.event.specs.Proof.Arms.{at-line, own, past, strict, waits-at}
 use Rattle.event.proofs.execute.Statement.{statement}
 use Rattle.event.proofs.execute.Tie as tie

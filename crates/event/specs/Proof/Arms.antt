@@ -5,8 +5,8 @@ use mathlib.Core.Logic.{_≢_}
 use mathlib.Core.Path.{_≡_, ap, refl, subst, sym, _∙_}
 use Prim.Native.Nat.{ℕ, zero, suc, _+_, _≤_}
 use native.Mathlib.Omega.{arith}
-use Rattle.acts.specs.Lines.{Gives, Strict, chosen, exchanged, flagLowered, lockedSet, messSent, messTaken, nextCleared, nextRead, passedOn, prevLinked}
-use Rattle.acts.specs.Lines.{prevLooked, released, succLooked, tailClosed, waited}
+use Rattle.refusals.specs.Lines.{Gives, Strict, chosen, exchanged, flagLowered, lockedSet, messSent, messTaken, nextCleared, nextRead, passedOn, prevLinked}
+use Rattle.refusals.specs.Lines.{prevLooked, released, succLooked, tailClosed, waited}
 use Rattle.cells.specs.Cells.{Held}
 use Rattle.figure.specs.Figure.{line, my, tail}
 use Rattle.lines.specs.Lines.{lineAt, rowOf}

@@ -20,7 +20,7 @@ use Rattle.rows.specs.Rows.{Bytes}
 use Rattle.saved.specs.Proof.Held.{bytes-good, held-valid}
 use Rattle.saved.specs.Proof.SaveRead.{save-read}
 use Rattle.saved.specs.Saved.{savedGood, stateBy, stateIn}
-use Rattle.acts.specs.Lines.{Ready}
+use Rattle.refusals.specs.Lines.{Ready}
 use Rattle.event.specs.Event.{Advanced}
 
 -- a thread that the state has, has a record

@@ -1,8 +1,8 @@
--- `acts::release` meets its contract, by what its stop and its stores ensure. Assumes nothing.
+-- `follows::release` meets its contract, by what its stop and its stores ensure. Assumes nothing.
 use borrow.Author.Needs.{needs}
-use Rattle.acts.specs.Proof.Arms.{goes, stops}
-use Rattle.acts.proofs.release.Statement.{statement}
-use Rattle.acts.proofs.release.Tie as tie
+use Rattle.refusals.specs.Arms.{goes, stops}
+use Rattle.follows.proofs.release.Statement.{statement}
+use Rattle.follows.proofs.release.Tie as tie
 
 returns : tie.Need-returns
 returns c =

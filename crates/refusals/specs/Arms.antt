@@ -24,8 +24,8 @@ use Rattle.number.specs.Numbers.{isBottom}
 use Rattle.number.specs.Refused.{done}
 use Rattle.number.specs.declared.NodeNo.{NodeNo}
 use Rattle.number.specs.declared.ThreadNo.{ThreadNo}
 use Rattle.refusals.specs.Stops.{stopBy}
-use Rattle.acts.specs.Lines.{Ready, Strict, freed}
+use Rattle.refusals.specs.Lines.{Ready, Strict, freed}
 
 -- ---- stop, or go on
 

@@ -1,9 +1,9 @@
--- `acts::free` meets its contract, by whether there is a node. Assumes nothing.
+-- `follows::free` meets its contract, by whether there is a node. Assumes nothing.
 use borrow.Author.Needs.{needs}
 use borrow.Author.Tests.{eq-eqb, ne-eqb}
-use Rattle.acts.specs.Proof.Arms.{freed-by}
-use Rattle.acts.proofs.free.Statement.{statement}
-use Rattle.acts.proofs.free.Tie as tie
+use Rattle.refusals.specs.Arms.{freed-by}
+use Rattle.follows.proofs.free.Statement.{statement}
+use Rattle.follows.proofs.free.Tie as tie
 
 set-locked-requires : tie.Need-set-locked-requires
 set-locked-requires c κs = c .before .before .before .before .pre .1 (c .before .if1 .left)

@@ -1,10 +1,10 @@
--- `acts::link_prev` meets its contract, by what its stop and its stores ensure. Assumes nothing.
+-- `follows::link_prev` meets its contract, by what its stop and its stores ensure. Assumes nothing.
 use borrow.Author.Needs.{needs}
 use mathlib.Core.Path.{sym, _∙_}
-use Rattle.acts.specs.Proof.Arms.{goes, has-node, stops, there}
+use Rattle.refusals.specs.Arms.{goes, has-node, stops, there}
 use Rattle.number.specs.Refused.{done}
-use Rattle.acts.proofs.link_prev.Statement.{statement}
-use Rattle.acts.proofs.link_prev.Tie as tie
+use Rattle.follows.proofs.link_prev.Statement.{statement}
+use Rattle.follows.proofs.link_prev.Tie as tie
 
 set-next-requires : tie.Need-set-next-requires
 set-next-requires c κs =

@@ -1,11 +1,11 @@
--- `acts::pass_on` meets its contract, by what its stop and its stores ensure. Assumes nothing.
+-- `follows::pass_on` meets its contract, by what its stop and its stores ensure. Assumes nothing.
 use borrow.Author.Needs.{needs}
 use mathlib.Core.Path.{sym, _∙_}
 use native.Mathlib.Omega.{arith}
 use Rattle.refusals.specs.Laws.{later-none, place-left}
-use Rattle.acts.specs.Proof.Arms.{goes, has-node, stops}
-use Rattle.acts.proofs.pass_on.Statement.{statement}
-use Rattle.acts.proofs.pass_on.Tie as tie
+use Rattle.refusals.specs.Arms.{goes, has-node, stops}
+use Rattle.follows.proofs.pass_on.Statement.{statement}
+use Rattle.follows.proofs.pass_on.Tie as tie
 
 add-t18 : tie.Need-add-t18
 add-t18 c =

@@ -1,13 +1,13 @@
--- `acts::clear_next` meets its contract, by what its stop and its stores ensure. Assumes nothing.
+-- `follows::lock_my` meets its contract, by what its stop and its stores ensure. Assumes nothing.
 use borrow.Author.Needs.{needs}
 use mathlib.Core.Path.{sym, _∙_}
-use Rattle.acts.specs.Proof.Arms.{goes, has-node, stops, there}
+use Rattle.refusals.specs.Arms.{goes, has-node, stops, there}
 use Rattle.number.specs.Refused.{done}
-use Rattle.acts.proofs.clear_next.Statement.{statement}
-use Rattle.acts.proofs.clear_next.Tie as tie
+use Rattle.follows.proofs.lock_my.Statement.{statement}
+use Rattle.follows.proofs.lock_my.Tie as tie
 
-set-next-requires : tie.Need-set-next-requires
-set-next-requires c κs =
+set-locked-requires : tie.Need-set-locked-requires
+set-locked-requires c κs =
     let taken = c .before in
     let stop = taken .before in
     let led = stop .before .before in
@@ -20,21 +20,21 @@ set-next-requires c κs =
 returns : tie.Need-returns
 returns c =
     let line = c .before .before in
-    let next = line .before .before .before .before in
-    let taken = next .before .before in
+    let locked = line .before .before .before .before in
+    let taken = locked .before .before in
     let stop = taken .before in
     let led = stop .before .before in
     λ s held.
     rw (led .followed .ensures s held) at
-    (goes s _ (stop .follow-stop .ensures s held) (taken .if1 .taken) (line .set-line .ensures .holds _ (next .set-next .ensures .holds s held)))
+    (goes s _ (stop .follow-stop .ensures s held) (taken .if1 .taken) (line .set-line .ensures .holds _ (locked .set-locked .ensures .holds s held)))
 
 returns-2 : tie.Need-returns-2
 returns-2 c =
     let led = c .before .before .before in
     λ s held. stops s _ (rw (led .followed .ensures s held) at (c .before .follow-stop .ensures s held)) (c .if1 .left) held
 
-pub clear-next-spec : {M : Type 1} → statement M
-clear-next-spec =
+pub lock-my-spec : {M : Type 1} → statement M
+lock-my-spec =
     tie.close
     (tie.spec
-    (λ c κs. search needs) (λ c κs. search needs) set-next-requires (λ c κs. search needs) (λ c. search needs) returns (λ c. search needs) returns-2)
+    (λ c κs. search needs) (λ c κs. search needs) set-locked-requires (λ c κs. search needs) (λ c. search needs) returns (λ c. search needs) returns-2)

@@ -1,10 +1,10 @@
--- `acts::read_next` meets its contract, by what its stop and its stores ensure. Assumes nothing.
+-- `follows::read_next` meets its contract, by what its stop and its stores ensure. Assumes nothing.
 use borrow.Author.Needs.{needs}
 use mathlib.Core.Path.{sym, _∙_}
-use Rattle.acts.specs.Proof.Arms.{goes, has-node, stops, there}
+use Rattle.refusals.specs.Arms.{goes, has-node, stops, there}
 use Rattle.number.specs.Refused.{done}
-use Rattle.acts.proofs.read_next.Statement.{statement}
-use Rattle.acts.proofs.read_next.Tie as tie
+use Rattle.follows.proofs.read_next.Statement.{statement}
+use Rattle.follows.proofs.read_next.Tie as tie
 
 next-requires : tie.Need-next-requires
 next-requires c κs =

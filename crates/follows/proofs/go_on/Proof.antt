@@ -1,11 +1,11 @@
--- `acts::go_on` meets its contract, by what its stop and its stores ensure. Where the line waits, the number behind 6, 9 and 10 is that of its wait. Assumes nothing.
+-- `follows::go_on` meets its contract, by what its stop and its stores ensure. Where the line waits, the number behind 6, 9 and 10 is that of its wait. Assumes nothing.
 use borrow.Author.Needs.{needs}
 use mathlib.Core.Path.{sym, _∙_}
 use Rattle.refusals.specs.Laws.{at-node, passes, refuses, wait-stops, waits}
-use Rattle.acts.specs.Proof.Arms.{goes, has-node, stops, there}
+use Rattle.refusals.specs.Arms.{goes, has-node, stops, there}
 use Rattle.number.specs.Refused.{done}
-use Rattle.acts.proofs.go_on.Statement.{statement}
-use Rattle.acts.proofs.go_on.Tie as tie
+use Rattle.follows.proofs.go_on.Statement.{statement}
+use Rattle.follows.proofs.go_on.Tie as tie
 
 must-wait-requires : tie.Need-must-wait-requires
 must-wait-requires c κs =

@@ -1,2 +1,0 @@
--- What the proofs of the acts share.
-pub mod Arms
