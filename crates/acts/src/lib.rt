@@ -3,6 +3,8 @@
 // or stores only what document 01 says that the line changes, goes on to the follow-on line of its row and
 // gives 0. (The lines that follow a node are crate `follows`.) Rests on `refusals`, and on `cells` for the
 // bytes.
+#![tactic(auto)]
+
 ghost use Rattle.refusals.specs.Lines.{Gives, Ready, chosen, exchanged, flag_lowered, mess_sent, mess_taken, prev_looked, succ_looked, tail_closed};
 
 use lines::Row;

@@ -2,6 +2,8 @@
 // nodes that starts at one. Each is answered on the bytes of a saved state, which are read where they stand
 // and judged first; a state by value is judged, laid into a buffer, and answered there. Rests on `cells`
 // for the bytes, on `saved` and `lock` for judging, and on `lines` for the table.
+#![tactic(auto)]
+
 ghost use Rattle.std.specs.Prelude.{cond, true, ◌≡◌, ◌≤◌, length};
 ghost use Rattle.ask.specs.Ask.{answered, chain as chain_asked, chain_bytes, chain_from, how_many_threads, is_counted, is_sought, is_waiting};
 ghost use Rattle.ask.specs.Ask.{nodes_in_use, refused as refused_by, status as status_asked, status_of, waiting as waiting_asked};
@@ -26,21 +28,21 @@ const PASSING: u8 = 3;
 const FIRST_HELD: u8 = 20;
 
 // What a question gives: 0 and its value, or the refusal and 0.
-#[derive(Drop)]
+#[derive(Clone, Copy)]
 pub struct Asked {
     pub number: u8,
     pub value: u8,
 }
 
 // The threads that a question looks for: those that hold the lock, or those that wait for it.
-#[derive(Drop)]
+#[derive(Clone, Copy)]
 enum Sought {
     Holding,
     Waiting,
 }
 
 // The questions that have a number for an answer.
-#[derive(Drop)]
+#[derive(Clone, Copy)]
 enum Question {
     Status,
     Waiting,

@@ -1,6 +1,8 @@
 // The calls for C and Rust, on saved states in bytes. Each is thin: it hands the bytes to the call of a
 // crate below, which works on them where they stand, and no call has a state by value. A number behind a
 // `&mut` is a result, and is written in every case. Rests on `saved`, `lent`, `run` and `ask`.
+#![tactic(auto)]
+
 ghost use Rattle.std.specs.Prelude.{◌≡◌};
 ghost use Rattle.board.specs.Board.{RunGives, ask_chain, ask_chain_bytes, ask_in_use, ask_status, ask_waiting, check_number, fresh_bytes, fresh_number};
 ghost use Rattle.board.specs.Board.{step_bytes, step_number};

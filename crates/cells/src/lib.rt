@@ -3,6 +3,8 @@
 // by name, the shared numbers, those of a node and those of a thread. Every place is known here and nowhere
 // above, and a thread's number never finds a node, nor a node's a thread. Rests on `number` for the kinds
 // of number, and on `saved` for the layout.
+#![tactic(auto)]
+
 ghost use Rattle.std.specs.Prelude.{◌+◌, ◌<◌, ◌≤◌, ◌≡◌, get_or, length};
 ghost use Rattle.std.proofs.lemmas.List.Edits.{sets};
 ghost use Rattle.cells.specs.Cells.{HasNode, HasThread, Laid, Leaves, Shows, node_place, thread_place};

@@ -1,6 +1,8 @@
 // One event of a saved state, executed in place: one match on the line, nineteen arms in document 01's
 // order, each naming what the line does (crates `acts` and `follows`) and asking the constant table for its
 // row by the line itself. Nothing is judged here. Rests on `acts`, `follows` and `lines`.
+#![tactic(auto)]
+
 ghost use Rattle.std.specs.Prelude.{true, ◌≡◌};
 ghost use Rattle.refusals.specs.Lines.{Gives, Ready};
 ghost use Rattle.cells.specs.Cells.{Laid, Shows};

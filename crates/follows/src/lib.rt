@@ -1,6 +1,8 @@
 // What the lines do that follow a node, in place on the bytes of a saved state: one function for each thing
 // that is done, in the order of the lines, as in crate `acts`. Those that only wait are here: which of them
 // follows a node is their row's to say. Rests on `refusals`, and on `cells` for the bytes.
+#![tactic(auto)]
+
 ghost use Rattle.std.specs.Prelude.{◌≢◌};
 ghost use Rattle.cells.specs.Cells.{HasNode, Laid, Leaves};
 ghost use Rattle.refusals.specs.Lines.{Gives, Ready, Strict, freed, locked_set, next_cleared, next_read, passed_on, prev_linked, released, waited};

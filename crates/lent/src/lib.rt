@@ -1,5 +1,7 @@
 // The step over a saved state that is lent: the bytes are changed where they stand, with the results of the
 // step by value. Rests on `saved`, which judges them, and on `event`, which executes the line in them.
+#![tactic(auto)]
+
 ghost use Rattle.std.specs.Prelude.{◌≡◌};
 ghost use Rattle.lent.specs.Lent.{lent_answer, lent_bytes};
 

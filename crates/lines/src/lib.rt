@@ -1,6 +1,8 @@
 // The constant table of the nineteen lines of Figure 1: for each line the node that it follows, what it
 // waits for, and its follow-on lines. The step, its refusals and the waiting question go by it. What a line
 // does is said where it is done (crate `event`). Rests on `number`.
+#![tactic(auto)]
+
 ghost use Rattle.std.specs.Prelude.{◌≤◌, ◌≡◌};
 ghost use Rattle.number.specs.Sizes.{first_line, last_line};
 ghost use Rattle.lines.specs.Lines.{line_at, row_of};
@@ -10,7 +12,7 @@ use Wait::{ForFlag, ForLink, ForUnlock, NoWait};
 use number::FIRST_LINE;
 
 // The node that a line follows; succ only where it is not 0.
-#[derive(Drop)]
+#[derive(Clone, Copy)]
 pub enum Follow {
     NoNode,
     My,
@@ -19,7 +21,7 @@ pub enum Follow {
 }
 
 // What a line waits for: the flag, the unlock of my, or the link from my.
-#[derive(Drop)]
+#[derive(Clone, Copy)]
 pub enum Wait {
     NoWait,
     ForFlag,
@@ -29,7 +31,7 @@ pub enum Wait {
 
 // A row: the node that its line follows, what it waits for, the line that it goes on to, and the other one
 // where it looks at a number that is not so.
-#[derive(Drop)]
+#[derive(Clone, Copy)]
 pub struct Row(pub Follow, pub Wait, pub u8, pub u8);
 
 // Lines 11 to 29.

@@ -1,5 +1,7 @@
 // The state of the lock, the fresh state, and the rule that a state is held to. What a fresh state is made
 // of is `pub`, for the crate that writes one in bytes (`saved`). Rests on `number` and `word`.
+#![tactic(auto)]
+
 ghost use Rattle.std.specs.Prelude.{◌≤◌, ◌≡◌};
 ghost use Rattle.number.specs.Sizes.{most_threads};
 ghost use Rattle.lock.specs.Fresh.{fresh as fresh_of, fresh_shared, idle, idle_to, in_size};
@@ -13,14 +15,14 @@ use number::{
 };
 
 // A queue node.
-#[derive(Drop)]
+#[derive(Clone, Copy)]
 pub struct Node {
     pub next: NodeNo,
     pub locked: u8,
 }
 
 // A thread: the line that it is to execute next, and its own variables.
-#[derive(Drop)]
+#[derive(Clone, Copy)]
 pub struct Thread {
     pub line: u8,
     pub my: NodeNo,
@@ -32,7 +34,7 @@ pub struct Thread {
 
 // The shared numbers: `threads` is T and `nodes` is K; `used` is the word of the nodes in use, the set
 // `local` without ⊥.
-#[derive(Drop)]
+#[derive(Clone, Copy)]
 pub struct Shared {
     pub threads: u8,
     pub nodes: u8,
@@ -46,7 +48,7 @@ pub struct Shared {
 }
 
 // Node k stands at place k - 1 of `node`, and thread t at place t - 1 of `thread`.
-#[derive(Drop)]
+#[derive(Clone, Copy)]
 pub struct State {
     pub shared: Shared,
     pub node: [Node; MOST_NODES as usize],
@@ -54,7 +56,7 @@ pub struct State {
 }
 
 // What a call that makes a state gives: 0 and the state, or the refusal and a state with 0 everywhere.
-#[derive(Drop)]
+#[derive(Clone, Copy)]
 pub struct Opened {
     pub number: u8,
     pub state: State,

@@ -1,5 +1,7 @@
 // The numbers that document 01 introduces: the sizes of "What the tool covers", the refusal numbers, and the three quantities
 // that stay separate. Every other crate names them from here. Rests on nothing.
+#![tactic(auto)]
+
 ghost use Rattle.std.specs.Prelude.{cond, ◌≡◌};
 
 // T threads, 1 to 32, numbered from 1.
@@ -44,13 +46,13 @@ pub const NO_PLACE_LEFT: u8 = 11;
 pub const MUST_WAIT: u8 = 12;
 
 // A thread number, a node number and a place in the queue: a 3 in one is never read as a 3 in another.
-#[derive(Drop)]
+#[derive(Clone, Copy)]
 pub struct ThreadNo(pub u8);
 
-#[derive(Drop)]
+#[derive(Clone, Copy)]
 pub struct NodeNo(pub u8);
 
-#[derive(Drop)]
+#[derive(Clone, Copy)]
 pub struct Place(pub u32);
 
 // "The first that applies, in this order, is given": the number where its test holds, else what the later tests give.

@@ -1,13 +1,15 @@
 // The schedule reader: it keeps its schedule and its place, and gives one event at a time. Rests on `schedule`, whose `given_at` does
 // the work. Each function here holds a reader and is proved by a walk by hand, so they are few and thin. A caller of `next_from`, whose
 // parameters are plain, needs no walk.
+#![tactic(auto)]
+
 ghost use Rattle.std.specs.Prelude.{◌≡◌};
 ghost use Rattle.schedule.specs.Schedule.{given};
 ghost use Rattle.reader.specs.Reader.{after, gives, started};
 
 use schedule::{Given, WIDTH};
 
-#[derive(Drop)]
+#[derive(Clone, Copy)]
 pub struct Reader<'a> {
     pub schedule: &'a [u8],
     pub place: usize,

@@ -2,6 +2,8 @@
 // bytes of a saved state. Refusals 6 to 11 and the waits come in the order of document 01, the first that
 // applies; every line's event asks here, and nothing else knows a wait's test or its number. Rests on `lines`
 // for the rows and on `cells` for the bytes.
+#![tactic(auto)]
+
 ghost use Rattle.std.specs.Prelude.{◌≡◌};
 ghost use Rattle.cells.specs.Cells.{HasNode, HasThread, Laid, Shows};
 ghost use Rattle.figure.specs.Figure.{flag as flag_of, local as local_of};

@@ -1,6 +1,8 @@
 // Records of one width, laid end to end, as saved states and schedules have them: definitions and laws are
 // in specs/. The only code is `put`, the one loop that stores bytes in a lent buffer, and `put_times`,
 // which stores copies of one record by it.
+#![tactic(auto)]
+
 ghost use Rattle.std.specs.Prelude.{◌*◌, ◌+◌, ◌≤◌, ◌≡◌, length};
 ghost use Rattle.std.proofs.lemmas.List.Edits.{sets};
 ghost use Rattle.rows.specs.Rows.{times};

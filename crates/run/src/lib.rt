@@ -1,6 +1,8 @@
 // A run: the events of a schedule, one after the other, in the bytes of a saved state that is judged once;
 // and the unread part of its schedule. A run by value is made in the bytes of its state. Rests on
 // `schedule`, `saved` and `event`, and in specs/ on `events` and `rows`.
+#![tactic(auto)]
+
 ghost use Rattle.std.specs.Prelude.{◌-◌, ◌≤◌, cond, true, ◌≡◌, drop, length};
 ghost use Rattle.events.specs.Row.{goes_on, waits as is_wait};
 ghost use Rattle.rows.specs.Rows.{over};
@@ -16,7 +18,7 @@ use number::{BAD_SCHEDULE, BAD_SIZE, BAD_STATE, DONE, MUST_WAIT, TOO_SHORT};
 use schedule::{Heading, WIDTH};
 
 // Events executed, events waited, and the stopping number, or 0.
-#[derive(Drop)]
+#[derive(Clone, Copy)]
 pub struct Report {
     pub executed: u32,
     pub waited: u32,
@@ -24,7 +26,7 @@ pub struct Report {
 }
 
 // What a run reports, and the state that it ends in.
-#[derive(Drop)]
+#[derive(Clone, Copy)]
 pub struct Ran {
     pub report: Report,
     pub state: State,

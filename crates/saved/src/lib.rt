@@ -5,6 +5,8 @@
 // `rows::put` stores bytes from a place on. Calls by value that work on bytes lay their state into a buffer
 // by `laid` and take it up again by `state_in`; `put_fresh` writes the fresh state with no state by value.
 // Rests on `number`, `lock` and `rows`.
+#![tactic(auto)]
+
 ghost use Rattle.std.specs.Prelude.{◌*◌, ◌+◌, ◌-◌, ◌<◌, ◌≤◌, true, ◌≡◌, drop, length};
 ghost use Rattle.std.proofs.lemmas.List.Edits.{sets};
 ghost use Rattle.lock.specs.Fresh.{fresh_state, in_size};

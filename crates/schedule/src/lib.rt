@@ -1,6 +1,8 @@
 // Schedules: which bytes are one, and what stands at a place of one. `good` and `given_at` take any bytes and judge them; the other
 // calls are total too, and are for a run, which judges its schedule once and then reads one event after the other.
 // Rests on `number`, `lock` and `events`, and in specs/ on `rows`.
+#![tactic(auto)]
+
 ghost use Rattle.std.specs.Prelude.{◌≡◌, get_or};
 ghost use Rattle.schedule.specs.Schedule.{event_at, events_good, events_in, heading_good, heading_of, no_event, starts_event};
 ghost use Rattle.schedule.specs.Schedule.{given, good as good_of, stays as stays_of};
@@ -14,7 +16,7 @@ pub const WIDTH: usize = 4;
 pub const MOST_BYTES: usize = 65_536;
 
 // `threads` is T and `nodes` is K.
-#[derive(Drop)]
+#[derive(Clone, Copy)]
 pub struct Heading {
     pub threads: u8,
     pub nodes: u8,
@@ -22,7 +24,7 @@ pub struct Heading {
 
 // What stands at a place: 0 or the refusal, whether an event stands there, the event (zeros where none does), and the place to go on
 // from.
-#[derive(Drop)]
+#[derive(Clone, Copy)]
 pub struct Given {
     pub number: u8,
     pub found: bool,

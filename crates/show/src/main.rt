@@ -1,5 +1,7 @@
 // The printing program: it reads a schedule from standard input, and writes the text of its run from fresh, or `refused 2`.
 // It only reads, calls and writes: what is written is what `text` promises. Rests on `text`.
+#![tactic(auto)]
+
 ghost use Rattle.std.specs.Prelude.{◌+◌, ◌≡◌, length};
 ghost use Rattle.io.specs.Counts.{IsPrefixLen};
 ghost use Rattle.schedule.specs.Schedule.{most_bytes};

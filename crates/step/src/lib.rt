@@ -1,6 +1,8 @@
 // One step of the lock, by value: the state is judged, laid into a local buffer, the event is executed
 // there, and the state is taken up again. Rests on `saved` and `event`; what a step is, and what it
 // promises, stands in specs/ of `machine`.
+#![tactic(auto)]
+
 ghost use Rattle.std.specs.Prelude.{true, ◌≡◌};
 ghost use Rattle.machine.specs.Step.{advance as advance_of, step as step_of};
 ghost use Rattle.saved.specs.Saved.{saved_good, state_in};

@@ -2,6 +2,8 @@
 // `ask` and `schedule`, and for each event and its numbers on `event` and `cells`. The machine is run anew,
 // on the bytes of a fresh saved state, for each pass over the events: once for the end line, once to learn
 // how long the text is, so that a buffer that is too short stays as it was, and once to write.
+#![tactic(auto)]
+
 ghost use Rattle.std.specs.Prelude.{◌+◌, ◌≤◌, cond, true, [], ◌++◌, ◌∷◌, ◌≡◌, length, take};
 ghost use Rattle.std.proofs.lemmas.List.Edits.{sets};
 ghost use Rattle.lock.specs.declared.State.{State};
@@ -19,7 +21,7 @@ use number::{BAD_SCHEDULE, DONE, TOO_SHORT};
 use saved::MOST_SAVED;
 
 // What the call gives: 0 and how many bytes the text has, or the refusal and 0.
-#[derive(Drop)]
+#[derive(Clone, Copy)]
 pub struct Written {
     pub number: u8,
     pub size: usize,
@@ -38,14 +40,14 @@ const LINE_ROOM: usize = 88;
 const MOST_EVENTS: usize = 16_383;
 
 // A line: the first `size` of these bytes.
-#[derive(Drop)]
+#[derive(Clone, Copy)]
 struct Line {
     bytes: [u8; LINE_ROOM],
     size: usize,
 }
 
 // A fresh saved state: the first `size` of these bytes.
-#[derive(Drop)]
+#[derive(Clone, Copy)]
 struct Fresh {
     bytes: [u8; MOST_SAVED],
     size: usize,

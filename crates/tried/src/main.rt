@@ -1,6 +1,7 @@
 // Runs what document 01 asks to be run and not proved: "Run: a byte too many or too few, lines 10 and 30: 1." Each line of the output says
 // what was read, and the number that reading it gave. The file is P1's, written here from "Saved state"; its neighbours that must
 // be read stand beside those that must not. Rests on `saved`.
+#![tactic(auto)]
 
 // P1: fresh, T = K = 2, with one byte more behind it: the header (T, K, flag, tail, mess, low, high, entered, nodes in use), two nodes (next,
 // locked), two threads (line, my, prev, succ, nxmy, slot).

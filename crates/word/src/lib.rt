@@ -1,5 +1,7 @@
 // The nodes in use as one 32-bit word, bit k - 1 for node k. A number that is not 1 to 32 has no bit: it is never in use, and
 // putting it in or taking it out leaves the word alone. Rests on `number`.
+#![tactic(auto)]
+
 ghost use Rattle.std.specs.Prelude.{◌≡◌};
 ghost use Rattle.word.specs.Word.{alone_in, how_many, in_use, none_from, put_in, take_out};
 
