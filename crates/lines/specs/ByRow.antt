@@ -1,6 +1,6 @@
 -- A test of each row of the table and its line number, computed over the nineteen rows, says it of every line 11 to 29. By induction over the rows.
 -- Assumes nothing.
-use Rattle.std.specs.Prelude.{Bool, true, ◌&&◌, List, [], ◌∷◌, ◌≡◌, ℕ, zero, suc, ◌+◌, ◌-◌, ◌≤◌, ◌<◌, get_or, length}
+use Rattle.std.specs.Prelude.{Bool, true, false, ◌&&◌, List, [], ◌∷◌, ◌≡◌, ℕ, zero, suc, ◌+◌, ◌-◌, ◌≤◌, ◌<◌, get_or, length}
 use Rattle.std.proofs.Common.{subst, le_of_suc-le-suc, le-ltb}
 use native.Mathlib.Omega.{arith}
 use Rattle.std.proofs.Math.Dec.{T}
@@ -13,6 +13,7 @@ all_from test l (r ∷ rs) = test l r && all_from test (suc l) rs
 
 both : (a b : Bool) → T (a && b) → T a × T b
 both true b h = (tt, h)
+both false b h = elim h [ ]
 
 module _ (test : ℕ → Line → Bool) where
   row_at : (l : ℕ) (rs : List Line) → T (all_from test l rs) → (j : ℕ) → j < length rs → T (test (l + j) (get_or rs j off_table))

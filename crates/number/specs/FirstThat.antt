@@ -20,6 +20,8 @@ AllReflect (r ∷ rs) (c ∷ cs) = Reflects r c × (r.applies ≡ false → AllR
 
 first_of_lem : (rs : List Refusal) (cs : List Condition) → AllReflect rs cs → First cs (first_of rs)
 first_of_lem [] [] h = refl
+first_of_lem [] (c ∷ cs) h = elim h [ ]
+first_of_lem (r ∷ rs) [] h = elim h [ ]
 first_of_lem (r ∷ rs) (c ∷ cs) h = go (λ e. first_of_lem rs cs (h.1 e)) r.applies refl
   where
     go : (r.applies ≡ false → First cs (first_of rs)) → (b : Bool) → r.applies ≡ b → First (c ∷ cs) (cond b r.number (first_of rs))

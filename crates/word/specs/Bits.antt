@@ -24,12 +24,12 @@ pub bit_zero : (j : ℕ) → bit 0 j ≡ 0
 bit_zero j = ap (λ n. n % 2) (zero-div (2 ^ j))
 
 -- A bit of an or is the larger of the two bits.
-pub bit_or : (a b j : ℕ) → bit (bit_or a b) j ≡ max (bit a j) (bit b j)
-bit_or a b j = rw (or_shr a b j, or_step (a / 2 ^ j) (b / 2 ^ j)) (omega arith)
+pub bit_or_lem : (a b j : ℕ) → bit (bit_or a b) j ≡ max (bit a j) (bit b j)
+bit_or_lem a b j = rw (or_shr a b j, or_step (a / 2 ^ j) (b / 2 ^ j)) (omega arith)
 
 -- A bit of an and is the smaller of the two bits.
-pub bit_and : (a b j : ℕ) → bit (bit_and a b) j ≡ min (bit a j) (bit b j)
-bit_and a b j = rw (and_shr a b j, and_step (a / 2 ^ j) (b / 2 ^ j)) (omega arith)
+pub bit_and_lem : (a b j : ℕ) → bit (bit_and a b) j ≡ min (bit a j) (bit b j)
+bit_and_lem a b j = rw (and_shr a b j, and_step (a / 2 ^ j) (b / 2 ^ j)) (omega arith)
 
 -- Bit i of 2 ^ i is 1.
 pub bit_pow_same : (i : ℕ) → bit (2 ^ i) i ≡ 1

@@ -14,7 +14,7 @@ use Rattle.number.specs.Sizes.{most_nodes}
 use Rattle.number.specs.Tests.{first_holds, second_holds}
 use Rattle.number.specs.declared.NodeNo.{NodeNo}
 use Rattle.word.specs.Word.{alone_in, bit, has_bit, how_many, how_many_to, in_use, none_from, put_in, take_out}
-use Rattle.word.specs.Bits.{bit_above, bit_and, bit_not, bit_or, bit_pow_other, bit_pow_same, bit_top, bit_zero, bits_below, in_bit}
+use Rattle.word.specs.Bits.{bit_above, bit_and_lem, bit_not, bit_or_lem, bit_pow_other, bit_pow_same, bit_top, bit_zero, bits_below, in_bit}
 
 -- ---- two tests that must both pass
 
@@ -83,7 +83,7 @@ take_bit w j k h =
     let r = bit_range j h in
     let l = alone_fits k 32 (λ g. (bit_range k g).1) in
     let e = bit_not 32 (alone_in k) (j.0 - 1) (omega arith) l in
-    rw (bit_and w (2 ^ 32 - 1 - alone_in k) (j.0 - 1)) (omega arith)
+    rw (bit_and_lem w (2 ^ 32 - 1 - alone_in k) (j.0 - 1)) (omega arith)
 
 -- ---- the laws
 
@@ -94,12 +94,12 @@ in_none k = in_clear 0 k (λ h. bit_zero (k.0 - 1))
 -- A node that is put in is in use.
 pub in_put_same : (w : ℕ) (k : NodeNo) → has_bit k ≡ true → in_use (put_in w k) k ≡ true
 unfolding put_in
-in_put_same w k h = in_set (put_in w k) k h (rw (bit_or w (alone_in k) (k.0 - 1), alone_same k h) (omega arith))
+in_put_same w k h = in_set (put_in w k) k h (rw (bit_or_lem w (alone_in k) (k.0 - 1), alone_same k h) (omega arith))
 
 -- Putting a node in leaves every other node as it was.
 pub in_put_other : (w : ℕ) (j k : NodeNo) → j.0 ≢ k.0 → in_use (put_in w k) j ≡ in_use w j
 unfolding put_in
-in_put_other w j k n = in_same (put_in w k) w j (λ h. rw (bit_or w (alone_in k) (j.0 - 1), alone_other k j n h) (omega arith))
+in_put_other w j k n = in_same (put_in w k) w j (λ h. rw (bit_or_lem w (alone_in k) (j.0 - 1), alone_other k j n h) (omega arith))
 
 -- A node that is taken out is not in use.
 pub in_take_same : (w : ℕ) (k : NodeNo) → in_use (take_out w k) k ≡ false

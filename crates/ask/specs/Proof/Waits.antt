@@ -20,6 +20,8 @@ agrees l r = beq (is_counted r.wait) (is16or19 l)
 alike : (a b : Bool) → T (beq a b) → a ≡ b
 alike true true h = refl
 alike false false h = refl
+alike false true h = elim h [ ]
+alike true false h = elim h [ ]
 
 -- Line l has a wait that is counted exactly if it is 16 or 19.
 waits_at_lem : (l : ℕ) → 11 ≤ l → l ≤ 29 → is_counted (line_at l).wait ≡ is16or19 l

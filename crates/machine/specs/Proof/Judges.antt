@@ -35,6 +35,9 @@ use Rattle.machine.specs.Step.{followed}
 -- none of three tests holds
 outside : (a b c : Bool) → T (not (a || (b || c))) → T c → ⊥
 outside false false false h z = z
+outside false false true h z = elim h [ ]
+outside false true c h z = elim h [ ]
+outside true b c h z = elim h [ ]
 
 -- what a row says of its line, said of the line's number
 at : {l k : ℕ} (says : ℕ → Bool) → T (says l) → l ≡ k → T (says k)

@@ -1,6 +1,6 @@
 -- The table of lines says what document 01's sentences say: one test, computed over the nineteen rows, and the laws that turn it into the facts of
 -- each line. Assumes nothing.
-use Rattle.std.specs.Prelude.{Bool, true, not, ◌&&◌, [], ◌∷◌, ℕ, ◌≤◌, T, eqb, leb}
+use Rattle.std.specs.Prelude.{false, Bool, true, not, ◌&&◌, [], ◌∷◌, ℕ, ◌≤◌, T, eqb, leb}
 use Rattle.std.proofs.Common.{leb→le}
 use Rattle.lines.specs.Lines.{line_at, lines}
 use Rattle.lines.specs.ByRow.{all_from, of_line}
@@ -56,6 +56,8 @@ all_inside = tt
 
 three : (a b c : Bool) → T (a && b && c) → T a × T b × T c
 three true true c h = (tt, tt, h)
+three false b c h = elim h [ ]
+three true false c h = elim h [ ]
 
 -- what the sentences say of line l, that its row says
 pub row_agrees : (l : ℕ) → 11 ≤ l → l ≤ 29
@@ -66,6 +68,9 @@ row_agrees l a b =
 
 four : (a b c d : Bool) → T (a && b && c && d) → T a × T b × T c × T d
 four true true true d h = (tt, tt, tt, h)
+four false b c d h = elim h [ ]
+four true false c d h = elim h [ ]
+four true true false d h = elim h [ ]
 
 -- where line l goes on, it is to a line of the table
 pub row_inside : (l : ℕ) → 11 ≤ l → l ≤ 29 → Between 11 (line_at l).goes 29 × Between 11 (line_at l).other 29
