@@ -82,4 +82,4 @@ pub never_answered : {s : State} {exchanged passed : List ThreadNo} → Reached 
 unfolding answers
 never_answered r [] i h = omega arith
 never_answered r (e ∷ es) zero h = never r e.thread e.node h
-never_answered r (e ∷ es) (suc i) h = never_answered (event_reached r e) es i h
+never_answered {s} r (e ∷ es) (suc i) h = never_answered {s = (step s e.thread e.node).state} (event_reached r e) es i h

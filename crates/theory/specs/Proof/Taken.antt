@@ -53,7 +53,7 @@ takes_figure r [] s' no_steps = (refl, refl)
 takes_figure {s} r (e ∷ es) s'' (one_step {s' = s'} w f later) =
     let here = taken r e w f in
     let next = subst (λ (x : Stepped). FigureSteps x.state es s'') (sym here) later in
-    let rest = takes_figure (event_reached r e) es s'' next in
+    let rest = takes_figure {s = (step s e.thread e.node).state} (event_reached r e) es s'' next in
     (rw (ap (λ (x : Stepped). x.answer) here) rest.0, rest.1)
 
 pub done_are_figure : {s : State} {exchanged passed : List ThreadNo} → Reached s exchanged passed → (es : List Event)
@@ -62,7 +62,7 @@ unfolding done_of after
 done_are_figure r [] = no_steps
 done_are_figure {s} r (e ∷ es) =
     let t = step s e.thread e.node in
-    let later = done_are_figure (event_reached r e) es in
+    let later = done_are_figure {s = t.state} (event_reached r e) es in
     by_cases (ℕ_discrete t.answer done)
     (λ ok. rw (eq-eqb t.answer done ok) (one_step (within r e ok) (sound s e.thread e.node r.valid ok) later))
     (λ no.

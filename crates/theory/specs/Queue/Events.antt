@@ -32,4 +32,4 @@ module _ (tool : Tool) (exchange section : ℕ) (R : State → List ThreadNo →
       subst₂ (R (after tool s₁ es))
       (noted_behind (accepted_at tool exchange s e) e.thread x (done_at tool exchange s₁ es))
       (noted_behind (accepted_at tool section s e) e.thread y (done_at tool section s₁ es))
-      (events_keep (one s x y r e) es)
+      (events_keep {s = s₁} (one s x y r e) es)
