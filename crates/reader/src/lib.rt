@@ -1,6 +1,5 @@
 // The schedule reader: it keeps its schedule and its place, and gives one event at a time. Rests on `schedule`, whose `given_at` does
-// the work. Each function here holds a reader and is proved by a walk by hand, so they are few and thin. A caller of `next_from`, whose
-// parameters are plain, needs no walk.
+// the work.
 #![tactic(auto)]
 
 ghost use Rattle.std.specs.Prelude.{◌≡◌};
