@@ -1,7 +1,7 @@
 -- Bytes that hold a state: what stands in its header, in the record of a node and in that of a thread, and what a store there leaves. One law for each
 -- inner function. Assumes nothing.
 use mathlib.Core.List.{List, [], ◌∷◌, ◌++◌, append-nil}
-use Rattle.std.specs.Prelude.{◌≡◌, ℕ, ◌+◌, ◌-◌, ◌*◌, ◌/◌, ◌^◌, ◌≤◌, ◌<◌, get_or, length, set}
+use Rattle.std.specs.Prelude.{◌≡◌, ℕ, ◌+◌, ◌*◌, ◌/◌, ◌^◌, ◌≤◌, ◌<◌, get_or, length, set}
 use Rattle.std.proofs.Math.Path.{ap, refl, sym}
 use Rattle.std.proofs.Common.{◌∙◌, mod-eq_of_lt, arith, length-append}
 use Rattle.std.proofs.Math.Nat.{div-div-eq-div-mul}
