@@ -1,0 +1,2 @@
+-- The record of the followed node, by which the stores at that node are proved.
+pub mod Followed
