@@ -1,0 +1,36 @@
+-- `event::event` meets its contract: a saved state is ready for the event of each of its threads (Good). Assumes nothing.
+use Rattle.std.proofs.Common.{Bool, List, true, ◌≡◌, ◌∙◌, ℕ, rules, sym}
+use Rattle.cells.specs.Cells.{Shows}
+use Rattle.cells.specs.Proof.Good.{held, laid}
+use Rattle.event.specs.Proof.Good.{advanced, no_thread_lem, ready}
+use Rattle.machine.specs.Step.{no_thread}
+use Rattle.number.specs.declared.ThreadNo.{ThreadNo}
+use Rattle.rows.specs.Rows.{Bytes}
+use Rattle.saved.specs.Saved.{saved_good, state_in}
+use Rattle.event.proofs.event.Goals as goal
+
+pub no_thread-requires : goal.no_thread-requires
+no_thread-requires c = laid c.args.b.now c.requires
+
+-- whether there is no such thread, in the state that the bytes hold
+is : (b : List ℕ) → Bytes b → saved_good b ≡ true → (t : ThreadNo) {r : Bool} → Shows b r (λ s. no_thread s.shared.threads t) → no_thread (state_in b).shared.threads t ≡ r
+is b bytes good t shown = sym (shown (state_in b) (held b bytes good))
+
+pub returns-then-no_thread : goal.returns-then-no_thread
+returns-then-no_thread c =
+    let b = c.args.b.now in
+    let bytes : Bytes b = search rules in
+    no_thread_lem b bytes c.requires c.args.t c.args.n (is b bytes c.requires c.args.t c.no_thread.ensures ∙ c.if-no_thread.true)
+
+pub execute-requires : goal.execute-requires
+execute-requires c =
+    let b = c.args.b.now in
+    let bytes : Bytes b = search rules in
+    ready b bytes c.requires c.args.t c.args.n (is b bytes c.requires c.args.t c.no_thread.ensures ∙ c.if-no_thread.false)
+
+pub returns : goal.returns
+returns c =
+    let b = c.args.b.now in
+    let bytes : Bytes b = search rules in
+    advanced b bytes c.requires c.args.t c.args.n (is b bytes c.requires c.args.t c.no_thread.ensures ∙ c.if-no_thread.false) _ _
+    (c.execute.ensures (state_in b) (held b bytes c.requires))
