@@ -1,5 +1,5 @@
 -- `rows::put_times` meets its contract: a turn of the loop stores one copy more. Rests on the laws of copies (specs/Stored). Assumes nothing.
-use Rattle.std.proofs.Common.{◌≡◌, ◌∙◌, refl, rules}
+use Rattle.std.proofs.Common.{◌∙◌, refl, rules}
 use Rattle.rows.specs.Rows.{times}
 use Rattle.rows.specs.Stored.{copy_more}
 use Rattle.rows.proofs.put_times.Goals as goal
