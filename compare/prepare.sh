@@ -2,8 +2,8 @@
 
 root=$(dirname "$here")
 export CARGO_TARGET_DIR="$root/target/compare"
-export BOARD_ARCHIVE="$root/target/staticlib/libboard.a"
-show="$root/target/bin/show"
+export BOARD_ARCHIVE="$root/crates/board/out/libboard.a"
+show="$root/crates/show/out/show"
 
 fail() {
     echo "$(basename "$0"): $1" >&2
@@ -13,9 +13,9 @@ fail() {
 need() {
     command -v cargo >/dev/null 2>&1 ||
         fail "cargo is missing: the separate program is written in Rust and has to be built"
-    [ -f "$BOARD_ARCHIVE" ] || fail "target/staticlib/libboard.a is missing: make it with 'rt staticlib board'"
+    [ -f "$BOARD_ARCHIVE" ] || fail "crates/board/out/libboard.a is missing: make it with 'rt lib' in crates/board"
 }
 
 need_show() {
-    [ -x "$show" ] || fail "target/bin/show is missing: make it with 'rt check show'"
+    [ -x "$show" ] || fail "crates/show/out/show is missing: ./show builds it"
 }

@@ -2,8 +2,8 @@
  * A handover of the lock, step by step: thread 1 takes it, thread 2 queues behind it and waits, and thread 1 hands it over. Then the
  * same is done by one run of a schedule. What it prints is in handover.txt. At the root of the repository:
  *
- *     rt staticlib board
- *     cc -std=c99 -Wall -Wextra -Werror -pedantic examples/handover.c -Iinclude target/staticlib/libboard.a -o handover
+ *     (cd crates/board && rt lib)
+ *     cc -std=c99 -Wall -Wextra -Werror -pedantic examples/handover.c -Iinclude crates/board/out/libboard.a -o handover
  *
  * It ends with exit status 1 where something is not as it should be.
  */

@@ -41,7 +41,7 @@
  *   - It takes no memory but the stack, as measured on x86-64: sedge_step 112 bytes, sedge_run 272, the others at most 240, and sedge_chain
  *     48 more for each node of the chain. It copies no state: every call works on the bytes that it was lent.
  *
- * To link, on x86-64:  cc example.c -Iinclude target/staticlib/libboard.a
+ * To link, on x86-64:  cc example.c -Iinclude crates/board/out/libboard.a
  * The archive needs nothing but memcpy and memset of the C library.
  */
 #ifndef SEDGESWIRL_H

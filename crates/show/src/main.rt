@@ -2,12 +2,13 @@
 // It only reads, calls and writes: what is written is what `text` promises. Rests on `text`.
 #![tactic(auto)]
 
-ghost use Rattle.std.specs.Prelude.{◌+◌, ◌≡◌, length};
-ghost use Rattle.io.specs.Counts.{IsPrefixLen};
+ghost use Rattle.std.specs.Prelude.{◌+◌, ◌≡◌, ◌≤◌, length, take};
 ghost use Rattle.schedule.specs.Schedule.{most_bytes};
 ghost use Rattle.text.specs.Text.{most_text};
 
-use libc::{STDIN_FILENO, STDOUT_FILENO};
+use std::io;
+use std::io::{Print, Read, Stdin};
+
 use number::DONE;
 use text::MOST_TEXT;
 
@@ -30,16 +31,15 @@ fn text_room() -> [u8; MOST_TEXT]
 
 // Reads until the input ends or `input` is full, in pieces of any size, and gives how many bytes it read. Where a read fails, what
 // was read before is no schedule, and it gives 0, as of an empty input.
-fn read_all(input: &mut [u8]) -> usize
-    ensures { IsPrefixLen result input.new }
+fn read_all(source: &mut Stdin, input: &mut [u8]) -> usize
+    ensures { (result ≤ length input.new) × (result ≡ length (take result input.new)) }
 {
     let mut filled = 0;
     while filled < input.len() {
-        let got = libc::read(STDIN_FILENO, &mut input[filled..]);
-        if got < 0 {
-            return 0;
-        }
-        let more = io::count(got, &input[filled..]);
+        let more = match source.read(&mut input[filled..]) {
+            Ok(n) => n,
+            Err(_) => return 0,
+        };
         if more == 0 {
             return filled;
         }
@@ -50,20 +50,21 @@ fn read_all(input: &mut [u8]) -> usize
 
 // Writes the text of the schedule, by way of `out`, or that it is refused. `out` has room for any text, so that this is what document
 // 01 says is printed (`prints` of crate `text`).
-fn print(schedule: &[u8], out: &mut [u8]) {
+fn print(rt: HostRuntime, schedule: &[u8], out: &mut [u8]) -> io::Result<()> {
     let written = text::text(schedule, out);
     if written.number == DONE {
         let n = written.size;
-        io::write_all(STDOUT_FILENO, &out[..n]);
+        rt.write_all(&out[..n])
     } else {
         let refused = text::refused_text();
-        io::write_all(STDOUT_FILENO, &refused);
+        rt.write_all(&refused)
     }
 }
 
-fn main() {
+fn main(rt: HostRuntime) -> io::Result<()> {
     let mut input = input_room();
-    let n = read_all(&mut input);
+    let mut source = rt.stdin();
+    let n = read_all(&mut source, &mut input);
     let mut out = text_room();
-    print(&input[..n], &mut out);
+    print(rt, &input[..n], &mut out)
 }

@@ -3,6 +3,8 @@
 // be read stand beside those that must not. Rests on `saved`.
 #![tactic(auto)]
 
+use std::io;
+
 // P1: fresh, T = K = 2, with one byte more behind it: the header (T, K, flag, tail, mess, low, high, entered, nodes in use), two nodes (next,
 // locked), two threads (line, my, prev, succ, nxmy, slot).
 const FILE: [u8; 54] =
@@ -12,28 +14,26 @@ const FILE: [u8; 54] =
 const LINE: usize = 33;
 
 // Writes what is read, and the number that reading gives.
-fn show(what: &[u8], file: &[u8]) {
+fn show(rt: HostRuntime, what: &str, file: &[u8]) -> io::Result<()> {
     let opened = saved::read(file);
-    let number = opened.number as u64;
-    io::write_all(1, what);
-    io::print_decimal(1, number);
-    io::write_all(1, b"\n");
+    let number = opened.number;
+    println!(rt; "{what}{number}")
 }
 
 // The file with thread 1 at this line.
-fn show_line(what: &[u8], line: u8) {
+fn show_line(rt: HostRuntime, what: &str, line: u8) -> io::Result<()> {
     let mut file = FILE;
     file[LINE] = line;
-    show(what, &file[..53]);
+    show(rt, what, &file[..53])
 }
 
-fn main() {
+fn main(rt: HostRuntime) -> io::Result<()> {
     let file = FILE;
-    show(b"53 bytes: ", &file[..53]);
-    show(b"a byte too few: ", &file[..52]);
-    show(b"a byte too many: ", &file);
-    show_line(b"line 10: ", 10);
-    show_line(b"line 11: ", 11);
-    show_line(b"line 29: ", 29);
-    show_line(b"line 30: ", 30);
+    show(rt, "53 bytes: ", &file[..53])?;
+    show(rt, "a byte too few: ", &file[..52])?;
+    show(rt, "a byte too many: ", &file)?;
+    show_line(rt, "line 10: ", 10)?;
+    show_line(rt, "line 11: ", 11)?;
+    show_line(rt, "line 29: ", 29)?;
+    show_line(rt, "line 30: ", 30)
 }
