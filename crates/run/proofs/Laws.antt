@@ -1,10 +1,6 @@
 -- The laws of the run's loop over the bytes of a saved state. Rests on the laws of a row of events (crate `events`, Laws). Assumes nothing.
-use mathlib.Core.Bool.{Bool, cond, false, true}
-use mathlib.Core.List.{List}
-use mathlib.Core.Path.{◌≡◌, ap, subst, sym, ◌∙◌}
-use Prim.Native.Nat.{ℕ, ◌+◌, ◌-◌, ◌≤◌}
-use native.Mathlib.Omega.{arith}
-use lib.ListN.{length}
+use Rattle.std.specs.Prelude.{Bool, cond, false, true, List, ◌≡◌, ℕ, ◌+◌, ◌-◌, ◌≤◌}
+use Rattle.std.proofs.Common.{ap, arith, subst, sym, ◌∙◌}
 use Rattle.events.specs.Laws.{Next, Over, SoFar, goes_on_lem}
 use Rattle.events.specs.Proof.Answers.{on_counts}
 use Rattle.events.specs.Row.{goes_on, waits}
@@ -20,12 +16,6 @@ use Rattle.schedule.specs.Schedule.{events_of}
 use Rattle.run.specs.Run.{ran, ran_over, report_of, reported}
 use Rattle.run.specs.declared.Ran.{Ran}
 
--- b is a saved state, and as long as b₀, which it began as
-pub record Stays (b₀ b : List ℕ) : Type 0 where
-  pub good : saved_good b ≡ true
-  pub bytes : Bytes b
-  pub long : length b ≡ length b₀
-
 -- what an answer adds to a count
 pub at_most_one : (b : Bool) → cond b 1 0 ≤ 1
 at_most_one true = omega arith
@@ -40,10 +30,10 @@ one_more tool s₀ es {i} {w} {s} {r} f next h =
     subst (λ (x : ℕ). SoFar tool s₀ es (i + 1) r.state x w') (omega (arith, f.counted, on_counts r.answer h)) (goes_on_lem tool s₀ es f next h)
 
 -- where the row is over, the report and the bytes are the run's
-pub over_gives : (b₀ b e : List ℕ) {n x w m : ℕ} → Stays b₀ b → Over advance (state_in b₀) (events_of e) n (state_in b) x w m
+pub over_gives : (b₀ b e : List ℕ) {n x w m : ℕ} → Bytes b → saved_good b ≡ true → Over advance (state_in b₀) (events_of e) n (state_in b) x w m
     → (reported x w m ≡ (ran_over (state_in b₀) e).report) × (b ≡ bytes_of (ran_over (state_in b₀) e).state)
 unfolding ran_over report_of
-over_gives b₀ b e {n} {x} {w} {m} s o =
+over_gives b₀ b e {n} {x} {w} {m} bytes good o =
     let gives : ran (reported x w m) (state_in b) ≡ ran_over (state_in b₀) e =
     λ i. ran (reported (o.executed i) (o.waited i) (o.stopping i)) (o.end i) in
-    (ap (λ (r : Ran). r.report) gives, sym (save_read b s.bytes s.good) ∙ ap (λ (r : Ran). bytes_of r.state) gives)
+    (ap (λ (r : Ran). r.report) gives, sym (save_read b bytes good) ∙ ap (λ (r : Ran). bytes_of r.state) gives)

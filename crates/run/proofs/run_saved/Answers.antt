@@ -1,0 +1,36 @@
+-- `run::run_saved` meets its contract. A run that is not refused has good bytes, a good schedule and room for its answers. Assumes nothing.
+use Rattle.std.proofs.Common.{Bool, List, false, length, refl, sym, true, true≢false, ℕ, ◌≡◌, ◌∙◌}
+use Rattle.run.specs.Proof.Refused.{Passed, passed}
+use Rattle.run.specs.Saved.{accepted_run, refused_run}
+use Rattle.saved.specs.Proof.Held.{bad_valid, good_state}
+use Rattle.saved.specs.Saved.{read, saved_good}
+use Rattle.run.proofs.run_saved.Goals as goal
+
+-- where nothing refuses the run, the bytes are good, since they hold a valid state
+good : (b schedule : List ℕ) (room : ℕ) → Passed (read b).state schedule room → saved_good b ≡ true
+good b schedule room p = by_test (saved_good b) refl
+  where
+    by_test : (x : Bool) → saved_good b ≡ x → saved_good b ≡ true
+    by_test true e = e
+    by_test false e = absurd (true≢false (sym p.state ∙ bad_valid b e))
+
+pub run_events-requires : goal.run_events-requires
+run_events-requires c =
+    let a = c.args in
+    let p = passed (read a.bytes.now).state a.schedule.now (length a.answers.now) (sym c.refusal_saved-refused.ensures ∙ c.if-refused-eq-DONE.true) in
+    (good a.bytes.now _ _ p, p.schedule, p.answers)
+
+pub returns-then-refused-eq-DONE : goal.returns-then-refused-eq-DONE
+returns-then-refused-eq-DONE c =
+    let a = c.args in
+    let none = sym c.refusal_saved-refused.ensures ∙ c.if-refused-eq-DONE.true in
+    let p = passed (read a.bytes.now).state a.schedule.now (length a.answers.now) none in
+    let to = accepted_run a.bytes.now a.schedule.now a.answers.now none in
+    let same = rw (← good_state a.bytes.now (good a.bytes.now _ _ p)) at c.run_events.ensures in
+    record { reports = same.gives ∙ to.0; leaves = same.leaves ∙ to.1; stores = same.stores ∙ to.2 }
+
+pub returns : goal.returns
+returns c =
+    let a = c.args in
+    let to = refused_run a.bytes.now a.schedule.now a.answers.now c.refusal_saved-refused.ensures c.if-refused-eq-DONE.false in
+    record { reports = c.tallied.ensures ∙ to.0; leaves = to.1; stores = to.2 }
