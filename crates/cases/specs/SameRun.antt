@@ -10,7 +10,8 @@ use Rattle.lock.specs.declared.State.{State}
 use Rattle.number.specs.Refused.{done}
 use Rattle.number.specs.Tests.{first_holds, second_holds}
 use Rattle.machine.specs.Step.{step}
-use Rattle.machine.specs.Theorems.{Complete, Tool, complete_same, valid_kept}
+use Rattle.machine.specs.Theorems.{Complete, Tool, valid_kept}
+use Rattle.machine.proofs.Theorems.{complete_same}
 use Rattle.cases.specs.Case.{Case, passes}
 use Rattle.events.specs.Events.{accepts_all, after, answers, lines_done}
 use Rattle.events.specs.declared.Event.{Event}

@@ -1,4 +1,5 @@
 -- What a step promises: the theorems that a buyer needs, each under a plain sentence. The arguments are in Proof. Assumes nothing.
+-- `sound`, `complete`, `no_second_tool` and `complete_same` stand in proofs/Theorems, with their arguments beside it: what a line does decides them.
 use Rattle.std.specs.Prelude.{List, ◌∷◌, ◌++◌, ◌≢◌, ◌↔◌, ◌≡◌}
 use Rattle.lock.specs.Judged.{rule_valid}
 use Rattle.lock.specs.State.{node_at, thread_at}
@@ -10,20 +11,12 @@ use Rattle.number.specs.declared.NodeNo.{NodeNo}
 use Rattle.number.specs.declared.ThreadNo.{ThreadNo}
 use Rattle.machine.specs.Conditions.{Condition, Follows, NoneApply, conditions}
 use Rattle.machine.specs.Proof.Answer
-use Rattle.machine.specs.Proof.Against
+use Rattle.machine.specs.Proof.Accepts
 use Rattle.machine.specs.Proof.Exactly
 use Rattle.machine.specs.Proof.Stays
 use Rattle.machine.specs.Step.{advance, step}
 use Rattle.machine.specs.declared.Stepped.{Stepped}
 pub use Rattle.machine.specs.Demands.{Complete, Exact, Possible, Sound, Tool, Unchanged}
-
--- From a valid state, an accepted step is a step of Figure 1 by that thread and node.
-pub sound : Sound step
-sound = Against.sound
-
--- From a valid state, each step that Figure 1 allows and that is possible is accepted, and leads where the figure leads.
-pub complete : Complete step
-complete = Against.complete
 
 -- The answer is the number of the first condition of document 01 that applies, and 0 exactly when none does.
 pub exactly_when : Exact step
@@ -52,7 +45,7 @@ nodes_stay = Stays.nodes_stay
 
 -- An accepted step keeps a valid state valid.
 pub valid_kept : (s : State) (t : ThreadNo) (n : NodeNo) → Valid s → (step s t n).answer ≡ done → Valid (step s t n).state
-valid_kept = Against.valid_kept
+valid_kept = Accepts.valid_kept
 
 -- In a valid state the inner step, which does not judge it, is the step.
 pub advance_is_step : (s : State) (t : ThreadNo) (n : NodeNo) → Valid s → advance s t n ≡ step s t n
@@ -61,21 +54,12 @@ advance_is_step s t n rule = rw (rule_valid s rule)
 
 -- A step, accepted or refused, leaves T and K as they were.
 pub size_kept : (s : State) (t : ThreadNo) (n : NodeNo) → Valid s → SameSize s (step s t n).state
-size_kept = Against.size_kept
+size_kept = Accepts.size_kept
 
 -- An accepted step was possible.
 pub accepted_possible : (s : State) (t : ThreadNo) (n : NodeNo) → Valid s → (step s t n).answer ≡ done → Possible s t n
-accepted_possible = Against.possible
+accepted_possible = Accepts.possible
 
 -- Two results that both meet the step's promise are equal.
 pub step_one_result : (s : State) (t : ThreadNo) (n : NodeNo) (r r' : Stepped) → r ≡ step s t n → r' ≡ step s t n → r ≡ r'
 step_one_result s t n r r' = only
-
--- Demands 1 and 2 leave no second tool: one whose answers are document 01's, whose refusals leave the state alone, and which is complete, is our step.
-pub no_second_tool : (tool : Tool) → Exact tool → Unchanged tool → Complete tool
-    → (s : State) (t : ThreadNo) (n : NodeNo) → Sized s → tool s t n ≡ step s t n
-no_second_tool = Against.no_second_tool
-
--- A complete tool does what our step does, wherever our step accepts.
-pub complete_same : (tool : Tool) → Complete tool → (s : State) (t : ThreadNo) (n : NodeNo) → Valid s → (step s t n).answer ≡ done → tool s t n ≡ step s t n
-complete_same = Against.complete_same

@@ -11,7 +11,7 @@ use Rattle.lines.specs.Lines.{line_at, row_of}
 use Rattle.lines.specs.declared.Row.{Row}
 use Rattle.lock.specs.declared.State.{State}
 use Rattle.machine.specs.Acts.{perform}
-use Rattle.machine.specs.Proof.Leads.{closes}
+use Rattle.machine.proofs.Leads.{closes}
 use Rattle.machine.specs.Refusals.{refusal}
 use Rattle.machine.specs.Step.{advance_by, refusal_of, stop_or}
 use Rattle.machine.specs.declared.Stepped.{Stepped}

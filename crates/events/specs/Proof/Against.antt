@@ -10,7 +10,8 @@ use Rattle.number.specs.Refused.{done}
 use Rattle.number.specs.declared.NodeNo.{NodeNo}
 use Rattle.number.specs.declared.ThreadNo.{ThreadNo}
 use Rattle.machine.specs.Step.{advance, step, stepped}
-use Rattle.machine.specs.Theorems.{accepted_possible, complete, sound}
+use Rattle.machine.specs.Theorems.{accepted_possible}
+use Rattle.machine.proofs.Theorems.{complete, sound}
 use Rattle.machine.specs.declared.Stepped.{Stepped}
 use Rattle.events.specs.FigureRun.{FigureRun}
 use Rattle.events.specs.FigureRun.FigureRun.{executed, no_events, stopped, waited}

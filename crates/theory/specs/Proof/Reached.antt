@@ -27,7 +27,8 @@ use Rattle.number.specs.Sizes.{most_nodes, most_threads}
 use Rattle.number.specs.declared.NodeNo.{NodeNo}
 use Rattle.number.specs.declared.ThreadNo.{ThreadNo}
 use Rattle.machine.specs.Step.{step}
-use Rattle.machine.specs.Theorems.{accepted_possible, refused_unchanged, sound, valid_kept}
+use Rattle.machine.specs.Theorems.{accepted_possible, refused_unchanged, valid_kept}
+use Rattle.machine.proofs.Theorems.{sound}
 use Rattle.theory.specs.Demands.{accepted_at, exchange_line, exchanges, passages, section_line}
 use Rattle.theory.specs.Proof.Look.{look, threads_of}
 use Rattle.theory.specs.Proof.Steps.{Kept, Tallied, keeps}

@@ -13,7 +13,8 @@ use Rattle.number.specs.Sizes.{last_place}
 use Rattle.number.specs.declared.ThreadNo.{ThreadNo}
 use Rattle.machine.specs.Demands.{Possible}
 use Rattle.machine.specs.Step.{step, stepped}
-use Rattle.machine.specs.Theorems.{accepted_possible, complete, refused_unchanged, sound}
+use Rattle.machine.specs.Theorems.{accepted_possible, refused_unchanged}
+use Rattle.machine.proofs.Theorems.{complete, sound}
 use Rattle.machine.specs.declared.Stepped.{Stepped}
 use Rattle.theory.specs.Demands.{done_of}
 use Rattle.theory.specs.FigureSteps.{FigureSteps, Within}

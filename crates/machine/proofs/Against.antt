@@ -1,62 +1,43 @@
 -- The step against the figure, put together: sound by Leads, complete by Leads and by the conditions (Exactly): what is possible, and what the
--- figure's rule asks, leaves no condition that applies. Assumes nothing.
+-- figure's rule asks, leaves no condition that applies. Rests on what an accepted step is (specs/Proof/Accepts). Assumes nothing.
 use Rattle.std.specs.Prelude.{Bool, false, true, ◌≢◌, ◌≡◌, refl, ℕ, eqb}
-use Rattle.std.proofs.Common.{true≢false, inl, inr, ⊎_elim, ap, subst, sym, ◌∙◌, arith}
-use Rattle.std.proofs.Math.Logic.{by_cases}
-use Rattle.std.proofs.Math.Decide.{dec_le, ℕ_discrete}
+use Rattle.std.proofs.Common.{true≢false, ⊎_elim, ap, subst, sym, ◌∙◌, arith}
+use Rattle.std.proofs.Math.Decide.{ℕ_discrete}
 use Rattle.machine.specs.Proof.Clear.{clear}
-use Rattle.figure.specs.Figure.{Figure, entered, flag, high, line, local, locked, low, my, next}
+use Rattle.figure.specs.Figure.{Figure, flag, line, local, locked, my, next}
 use Rattle.figure.specs.Figure.Figure.{line11, line12, line13, line14, line15, line16, line17, line18, line19, line20, line21, line22, line23, line24}
 use Rattle.figure.specs.Figure.Figure.{line25, line26, line27, line28, line29}
 use Rattle.lines.specs.Lines.{line_at}
 use Rattle.lock.specs.Judged.{in_table, valid_rule}
 use Rattle.lock.specs.State.{thread_at}
-use Rattle.lock.specs.Valid.{SameSize, Sized, Valid}
+use Rattle.lock.specs.Valid.{Sized, Valid}
 use Rattle.lock.specs.declared.State.{State}
-use Rattle.lock.specs.declared.Thread.{Thread}
 use Rattle.number.specs.Refused.{done}
-use Rattle.number.specs.Sizes.{last_place, most_entries}
 use Rattle.number.specs.declared.NodeNo.{NodeNo}
 use Rattle.number.specs.declared.ThreadNo.{ThreadNo}
 use Rattle.machine.specs.Conditions.{NoneApply, Waits, conditions}
 use Rattle.machine.specs.Conditions.Waits.{at16, at19, at23}
 use Rattle.machine.specs.Demands.{Complete, Exact, Possible, Sound, Tool, Unchanged}
-use Rattle.machine.specs.Proof.Answer.{Accepted, accepted, executes, unchanged}
+use Rattle.machine.specs.Proof.Answer.{accepted, executes, unchanged}
 use Rattle.machine.specs.Proof.Exactly.{accepted_exactly, exactly_when}
-use Rattle.machine.specs.Proof.Kept.{after_size, after_valid}
-use Rattle.machine.specs.Proof.Leads.{ends, leads}
-use Rattle.machine.specs.Step.{after, followed, step, stepped}
+use Rattle.machine.specs.Proof.Accepts.{now_at, possible}
+use Rattle.machine.proofs.Leads.{ends, leads}
+use Rattle.machine.specs.Step.{followed, step, stepped}
 use Rattle.machine.specs.declared.Stepped.{Stepped}
 use Rattle.word.specs.Word.{in_use}
 
 -- ---- an accepted step
 module _ (s : State) (t : ThreadNo) (n : NodeNo) (rule : Valid s) (h : (step s t n).answer ≡ done) where
-  abbrev v : Thread
-  v = thread_at s t
-
-  ok : Accepted s t n
-  ok = accepted s t n h
-
-  now_at : (step s t n).state ≡ after v.line s t n
-  now_at = ap (λ (r : Stepped). r.state) (executes s t n ok)
-
   pub leads_on : Figure t n s (step s t n).state
   leads_on =
+      let ok = accepted s t n h in
       let b = in_table t.0 s.shared.threads ok.there in
       let l = (rule.thread t b.from b.to).line in
-      rw now_at (leads s t n v.line l.from l.to refl (clear s (line_at v.line) (followed v.line s t) n ok.clear))
-
-  pub still_valid : Valid (step s t n).state
-  still_valid = rw now_at (after_valid s t n rule ok)
-
-  pub same_size : SameSize s (step s t n).state
-  same_size = rw now_at (after_size s t n rule ok)
+      let v = thread_at s t in
+      rw (now_at s t n rule h) (leads s t n v.line l.from l.to refl (clear s (line_at v.line) (followed v.line s t) n ok.clear))
 
 pub sound : Sound step
 sound s t n = leads_on s t n
-
-pub valid_kept : (s : State) (t : ThreadNo) (n : NodeNo) → Valid s → (step s t n).answer ≡ done → Valid (step s t n).state
-valid_kept s t n = still_valid s t n
 
 -- ---- what the figure's rules ask
 
@@ -144,46 +125,9 @@ complete s t n s' rule p f =
     let e = (accepted_exactly s t n rule.sized).1 (none_applies s t n rule p (asks s t n s' f)) in
     executes s t n (accepted s t n e) ∙ ap (stepped done) (sym (ends s t n s' f))
 
--- ---- an accepted step is possible
-
-surely : (b : Bool) → (b ≡ false → ⊥) → b ≡ true
-surely true h = refl
-surely false h = absurd (h refl)
-
-module _ (s : State) (t : ThreadNo) (n : NodeNo) (rule : Valid s) (h : (step s t n).answer ≡ done) where
-  not_one : NoneApply (conditions s t n)
-  not_one =
-      (accepted_exactly s t n rule.sized).0 h
-
-  pub possible : Possible s t n
-  possible =
-      let no6 = not_one.1.1.0 in
-      let no7 = not_one.1.1.1.0 in
-      let no9 = not_one.1.1.1.1.1.0 in
-      let no10 = not_one.1.1.1.1.1.1.0 in
-      let no11 = not_one.1.1.1.1.1.1.1.0 in
-      record {
-        thread = in_table t.0 s.shared.threads (ok s t n rule h).there;
-        named = λ e. by_cases (ℕ_discrete n.0 0) (λ z. z) (λ z. absurd (no6 (inr (e, z))));
-        within = λ e. by_cases (dec_le n.0 s.shared.nodes) (λ z. z) (λ z. absurd (no6 (inl (e, λ b. z b.to))));
-        entries = λ e. let off : entered s ≢ most_entries = λ z. no7 (e, z) in omega (arith, rule.shared.entered);
-        high_places = λ e. let off : (high s).0 ≢ last_place = λ z. no11 (inl (e, z)) in omega (arith, rule.shared.high.to);
-        low_places = λ e. let off : (low s).0 ≢ last_place = λ z. no11 (inr (e, z)) in omega (arith, rule.shared.low.to);
-        followed = λ k f. ((λ z. no9 (k, f, z)), surely (in_use (local s) k) (λ z. no10 (k, f, z)));
-      }
-
 pub complete_same : (tool : Tool) → Complete tool → (s : State) (t : ThreadNo) (n : NodeNo) → Valid s → (step s t n).answer ≡ done → tool s t n ≡ step s t n
 complete_same tool c s t n rule h =
     c s t n (step s t n).state rule (possible s t n rule h) (sound s t n rule h) ∙ ap (λ (a : ℕ). stepped a (step s t n).state) (sym h)
-
--- ---- accepted or refused, a step leaves T and K
-
-pub size_kept : (s : State) (t : ThreadNo) (n : NodeNo) → Valid s → SameSize s (step s t n).state
-size_kept s t n rule = go (ℕ_discrete (step s t n).answer done)
-  where
-    go : Dec ((step s t n).answer ≡ done) → SameSize s (step s t n).state
-    go (yes h) = same_size s t n rule h
-    go (no h) = rw (unchanged s t n h) (record { threads = refl; nodes = refl })
 
 -- ---- the demands leave no second tool
 
