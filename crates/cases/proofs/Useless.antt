@@ -4,7 +4,7 @@
 use Rattle.std.specs.Prelude.{◌≡◌, refl}
 use Rattle.std.proofs.Common.{ap, arith}
 use Rattle.machine.specs.Acts.{perform}
-use Rattle.ask.specs.Ask.{how_many_threads_to, status as statusAsked, status_of}
+use Rattle.ask.specs.Ask.{how_many_threads_to, status as status_asked, status_of}
 use Rattle.lines.specs.Lines.{line_at}
 use Rattle.lock.specs.Fresh.{fresh, fresh_state, idle_to}
 use Rattle.lock.specs.State.{thread_at}
@@ -32,7 +32,7 @@ use Rattle.cases.specs.Useless.{Tried, always_fresh, first, refuses_all, stands_
 pub tried : Tried
 unfolding refuses_all always_fresh stands_still whole_at_once alone queued passes accepts_all answers after
     fresh idle_to valid shared_valid nodes_valid threads_valid line_at in_use alone_in put_in take_out refusal perform advance step
-    statusAsked status_of how_many_threads_to
+    status_asked status_of how_many_threads_to
 tried = record {
   P2 = record { from_valid = fresh_valid 2 2 refl; accepted = refl; passed = refl };
   P6 = record { from_valid = fresh_valid 2 2 refl; accepted = refl; passed = refl };

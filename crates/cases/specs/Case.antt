@@ -1,7 +1,7 @@
 -- What a case of document 01's "States to try by hand" is, and when a tool passes it. Assumes nothing.
 use Rattle.std.specs.Prelude.{Bool, cond, false, true, ◌&&◌, List, [], ◌∷◌, ℕ, length}
 use Rattle.std.proofs.Math.Dec.{eqb}
-use Rattle.ask.specs.Ask.{status as statusAsked}
+use Rattle.ask.specs.Ask.{status as status_asked}
 use Rattle.lock.specs.Fresh.{opened}
 use Rattle.lock.specs.State.{node_at, thread_at}
 use Rattle.lock.specs.declared.Opened.{Opened}
@@ -66,7 +66,7 @@ locked k s = (node_at s (node k)).locked
 
 -- its status, as the question gives it, and how many bytes its saved state has
 abbrev pub status : State → ℕ
-status s = (statusAsked s).value
+status s = (status_asked s).value
 
 abbrev pub bytes : State → ℕ
 bytes s = length (bytes_of s)

@@ -3,7 +3,7 @@
 -- Case.antt. The proof is a computation: the one `unfolding` line names what it computes by. Assumes nothing.
 use Rattle.std.specs.Prelude.{true, List, [], ◌∷◌, ◌++◌, ◌≡◌, refl, ℕ, replicate, take}
 use Rattle.machine.specs.Acts.{perform}
-use Rattle.ask.specs.Ask.{how_many_threads_to, status as statusAsked, status_of}
+use Rattle.ask.specs.Ask.{how_many_threads_to, status as status_asked, status_of}
 use Rattle.lines.specs.Lines.{line_at}
 use Rattle.lock.specs.Fresh.{fresh, fresh_shared, fresh_state, idle, idle_to}
 use Rattle.lock.specs.State.{◌⟨entered≔◌⟩, ◌⟨high≔◌⟩, ◌⟨line≔◌⟩, ◌⟨my≔◌⟩, ◌⟨shared≔◌⟩, ◌⟨thread◌≔◌⟩, ◌⟨used≔◌⟩}
@@ -255,5 +255,5 @@ cases = p1 ++ p2 ++ p3 ++ p4 ++ p5 ++ p6 ++ p7 ++ p8 ++ p9 ++ p10 ++ p11 ++ p12
 pub all_cases_hold : passes_all step cases ≡ true
 unfolding cases p1 p2 alone p3 p4 p5 p6 queued p7 p8 p9 p10 p11 p12 passes_all passes
     fresh idle_to valid shared_valid nodes_valid threads_valid line_at in_use alone_in put_in take_out refusal perform advance step
-    statusAsked status_of how_many_threads_to bytes_of laid
+    status_asked status_of how_many_threads_to bytes_of laid
 all_cases_hold = refl

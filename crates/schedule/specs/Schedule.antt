@@ -8,7 +8,7 @@ use Rattle.lock.specs.Valid.{Between}
 use Rattle.number.specs.Refused.{bad_schedule, done}
 use Rattle.number.specs.Sizes.{most_nodes, most_threads}
 use Rattle.number.specs.Tests.{all_hold}
-use Rattle.rows.specs.Rows.{Kind, MarkAt, letter_e, letter_h, letter_s, all_good, good as goodRecord, laid, values}
+use Rattle.rows.specs.Rows.{Kind, MarkAt, letter_e, letter_h, letter_s, all_good, good as good_record, laid, values}
 use Rattle.schedule.specs.declared.Given.{Given}
 use Rattle.schedule.specs.declared.Heading.{Heading}
 
@@ -101,7 +101,7 @@ pub record Written (b : List ℕ) : Type 0 where
 -- ---- the test
 
 abbrev pub heading_good : List ℕ → Bool
-heading_good b = goodRecord heading b
+heading_good b = good_record heading b
 
 unfoldable pub events_good : List ℕ → Bool
 events_good b = all_good event_record (events_in b) (drop width b)
