@@ -1,8 +1,8 @@
 -- `step::step` meets its contract: the part of the buffer that is lent is the saved state of a valid state. Assumes nothing.
-use Rattle.std.proofs.Common.{◌≡◌, ◌∙◌, sym, take, true}
+use Rattle.std.proofs.Common.{◌≡◌, ◌∙◌, sym, take}
 use Rattle.machine.specs.Step.{step}
 use Rattle.saved.specs.Proof.Held.{bytes_good}
-use Rattle.saved.specs.Saved.{saved_good, state_in}
+use Rattle.saved.specs.Saved.{state_in}
 use Rattle.step.proofs.step.Goals as goal
 
 pub advance-requires : goal.advance-requires
