@@ -1,0 +1,21 @@
+-- `text::begin` meets its contract. A good schedule's T and K are in size, so the fresh state fits the buffer, and its bytes are the first of those that are
+-- written over it. Rests on Begun. Assumes nothing.
+use Rattle.std.proofs.Common.{ap, ◌∙◌, arith}
+use Rattle.saved.specs.Saved.{size}
+use Rattle.schedule.specs.declared.Heading.{Heading}
+use Rattle.text.specs.Proof.Begun.{begin_size, begin_stored, begin_within}
+use Rattle.text.proofs.begin.Goals as goal
+
+pub put_fresh-requires : goal.put_fresh-requires
+put_fresh-requires c =
+    let b = c.args.schedule.now in
+    rw c.heading_of-h.ensures (begin_size b c.requires, omega (arith, begin_within b c.requires))
+
+pub returns : goal.returns
+returns c =
+    let b = c.args.schedule.now in
+    let told = c.size-size.ensures ∙ ap (λ (h : Heading). size h.threads h.nodes) c.heading_of-h.ensures in
+    record {
+      within = omega (arith, told, begin_within b c.requires, c.put_fresh.auto.out);
+      same = rw (told, c.put_fresh.ensures, c.heading_of-h.ensures) (begin_stored b c.requires _);
+    }

@@ -1,0 +1,15 @@
+-- `text::put_numbers`: what is left of the fields, stored from the present place on, makes the whole line. The measure is how many fields are left.
+use Rattle.std.proofs.Common.{◌≡◌, ◌+◌, ◌-◌, ◌≤◌, drop, length}
+use Rattle.std.proofs.lemmas.List.Edits.{sets}
+use Rattle.text.specs.Text.{numbers}
+use Rattle.text.proofs.put_numbers.Given as goal
+
+abbrev pub invariant-loop-i : goal.invariant-loop-i
+invariant-loop-i l = record {
+  within : l.i ≤ length l.fields;
+  behind : l.place + length (numbers (drop l.i l.fields)) ≡ l.fn.at + length (numbers l.fields);
+  stored : sets l.out l.place (numbers (drop l.i l.fields)) ≡ sets l.fn.out l.fn.at (numbers l.fields);
+}
+
+abbrev pub decreases-loop-i : goal.decreases-loop-i
+decreases-loop-i l = length l.fields - l.i
