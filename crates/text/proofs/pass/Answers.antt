@@ -22,45 +22,40 @@ pub overflow_cast-i : goal.overflow_cast-i
 overflow_cast-i c = omega (arith, few_events c.args.schedule.now c.requires.1.schedule)
 
 -- what is known of event e, the one behind the first i of n, when it is answered by r and the bytes after it are b'
-turn : (schedule b : List ℕ) (i : ℕ) (e : Event) (r : ℕ) (b' : List ℕ) {n : ℕ} → saved_good b ≡ true → n ≡ events_in schedule → i < n
+turn : (schedule : List ℕ) {b b' : List ℕ} {i n r : ℕ} {e : Event} → saved_good b ≡ true → n ≡ events_in schedule → i < n
     → e ≡ get_or (events_of schedule) i no_event → Advanced b b' e.thread e.node r → Turn schedule (state_in b) i e (stepped r (state_in b'))
-turn schedule b i e r b' good many inside here told = record {
+turn schedule {b} {b'} {i} {n} {r} {e} good many inside here told = record {
   inside = omega (arith, length_events schedule);
   here = here;
   gives = λ j. stepped (told.answer j) ((again_good b good e.thread e.node told).1 j);
 }
 
 pub event_line-line-requires : goal.event_line-line-requires
-event_line-line-requires c = (again_good c.loop-i.b c.loop-i.invariant.good c.event_at-e.result.thread c.event_at-e.result.node c.event-answer.ensures).0
+event_line-line-requires c = (again_good _ c.loop-i.invariant.good _ _ c.event-answer.ensures).0
 
 pub put_line-place-requires : goal.put_line-place-requires
 put_line-place-requires c =
-    let l = c.loop-i in
-    let here = turn c.args.schedule.now l.b l.i c.event_at-e.result c.event-answer.result c.event-answer.new.b l.invariant.good c.events_in-n.ensures
-    c.loop-i-test.true c.event_at-e.ensures c.event-answer.ensures in
-    line_fits l.invariant.left here _ (c.event_line-line.ensures _ c.line_before-before.ensures) c.requires.1
+    let l = c.loop-i.invariant in
+    let here = turn _ l.good c.events_in-n.ensures c.loop-i-test.true c.event_at-e.ensures c.event-answer.ensures in
+    line_fits l.left here _ (c.event_line-line.ensures _ c.line_before-before.ensures) c.requires.1
 
 pub returns-then-not-goes_on : goal.returns-then-not-goes_on
 returns-then-not-goes_on c =
-    let l = c.loop-i in
-    let here = turn c.args.schedule.now l.b l.i c.event_at-e.result c.event-answer.result c.event-answer.new.b l.invariant.good c.events_in-n.ensures
-    c.loop-i-test.true c.event_at-e.ensures c.event-answer.ensures in
+    let l = c.loop-i.invariant in
+    let here = turn _ l.good c.events_in-n.ensures c.loop-i-test.true c.event_at-e.ensures c.event-answer.ensures in
     let put = c.put_line-place.ensures in
-    stops l.invariant.left here _ (c.event_line-line.ensures _ c.line_before-before.ensures) _ _ (put.place, put.bytes)
-    (sym c.goes_on.ensures ∙ c.if-not-goes_on.true)
+    stops l.left here _ (c.event_line-line.ensures _ c.line_before-before.ensures) _ _ (put.place, put.bytes) (sym c.goes_on.ensures ∙ c.if-not-goes_on.true)
 
 pub loop-i-preserved : goal.loop-i-preserved
 loop-i-preserved c =
-    let l = c.loop-i in
-    let e = c.event_at-e.result in
-    let here = turn c.args.schedule.now l.b l.i e c.event-answer.result c.event-answer.new.b l.invariant.good c.events_in-n.ensures c.loop-i-test.true
-    c.event_at-e.ensures c.event-answer.ensures in
+    let l = c.loop-i.invariant in
+    let here = turn _ l.good c.events_in-n.ensures c.loop-i-test.true c.event_at-e.ensures c.event-answer.ensures in
     let put = c.put_line-place.ensures in
     record {
       left =
-          goes_on_lem l.invariant.left here _ (c.event_line-line.ensures _ c.line_before-before.ensures) _ _ (put.place, put.bytes)
+          goes_on_lem l.left here _ (c.event_line-line.ensures _ c.line_before-before.ensures) _ _ (put.place, put.bytes)
           (sym c.goes_on.ensures ∙ c.if-not-goes_on.false);
-      good = (again_good l.b l.invariant.good e.thread e.node c.event-answer.ensures).0;
+      good = (again_good _ l.good _ _ c.event-answer.ensures).0;
     }
 
 -- behind the last event
