@@ -6,10 +6,9 @@ ghost use Rattle.std.specs.Prelude.{◌+◌, ◌≡◌, ◌≤◌, length, take}
 ghost use Rattle.schedule.specs.Schedule.{most_bytes};
 ghost use Rattle.text.specs.Text.{most_text};
 
+use number::DONE;
 use std::io;
 use std::io::{Print, Read, Stdin};
-
-use number::DONE;
 use text::MOST_TEXT;
 
 // One byte more than a schedule may have, so that a longer input is seen to be longer.
