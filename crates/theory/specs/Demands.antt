@@ -1,6 +1,6 @@
 -- Demand 3, as statements about any tool that is offered as a step: what every run from a fresh lock has. Read this file first: every statement stands here,
--- under the sentence that asks for it. (Words in quotes are demand 3's own, docs/PROMISES.md, and document 01's.) Theorems.antt proves all of it of our step
--- and of the run. Broken.antt has four machines, each with one line spoilt; of each, one of these statements is false. The statements speak of states,
+-- under the sentence that asks for it. (Words in quotes are demand 3's own, docs/PROMISES.md, and document 01's.) proofs/Theorems.antt proves all of it of
+-- our step and of the run. Broken.antt has four machines, each with one line spoilt; of each, one of these statements is false. The statements speak of states,
 -- events, the tool's answers, the figure's steps and the run alone; what the proof says of the queue besides is in Shape. Assumes nothing.
 use Rattle.std.specs.Prelude.{Bool, cond, true, ◌&&◌, List, [], ◌∷◌, ◌++◌, ◌≢◌, ◌↔◌, ◌≡◌, ℕ, ◌+◌, ◌-◌, ◌≤◌, ◌<◌, eqb, leb, get_or, length, take}
 use Rattle.ask.specs.Ask.{answered, free, how_many_threads, status}

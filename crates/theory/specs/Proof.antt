@@ -1,10 +1,5 @@
--- From states to the shape of the queue, and back. Look: the line at which a thread is seen. Steps: every step of Figure 1 keeps the shape, the order and the
--- counts. Reached: so does every event from a fresh lock. States: what a reached state has. Passages: what lists of events have. Taken: the figure's steps are
--- the accepted ones. Runs: the same of `run`.
+-- From states to the shape of the queue, and back. Look: the line at which a thread is seen. Reached: what every state reached from a fresh lock has, and that a
+-- fresh lock has it. States: what a reached state has. That every step and every event keeps it, and what follows, is in proofs/.
 pub mod Look
-pub mod Steps
 pub mod Reached
 pub mod States
-pub mod Passages
-pub mod Taken
-pub mod Runs

@@ -8,7 +8,6 @@ use Rattle.figure.specs.Figure.{line, prev, succ}
 use Rattle.lock.specs.State.{thread_at}
 use Rattle.lock.specs.declared.State.{State}
 use Rattle.lock.specs.declared.Thread.{Thread}
-use Rattle.number.specs.Numbers.{thread}
 use Rattle.number.specs.declared.ThreadNo.{ThreadNo}
 use Rattle.theory.specs.Queue.AtLines.{In}
 use Rattle.theory.specs.Queue.Seen.{Seen}

@@ -1,17 +1,13 @@
--- What every state reached from a fresh lock has, beside the lists of the exchanges and passages made on the way: a fresh state has it, and every event keeps
--- it. An accepted event is a step of Figure 1 (`sound`), and a refused one leaves the state. Rests on the step's theorems, Steps and Shape/Start.
--- Assumes nothing.
-use Rattle.std.specs.Prelude.{false, List, [], ◌++◌, ◌≡◌, eqb}
+-- What every state reached from a fresh lock has, beside the lists of the exchanges and passages made on the way; a fresh state has it. That every event keeps
+-- it is in proofs/Reaches. Rests on Shape and Shape/Start. Assumes nothing.
+use Rattle.std.specs.Prelude.{false, List, [], ◌≡◌}
 use Rattle.std.proofs.Math.Logic.{by_cases}
 use Rattle.std.proofs.Math.Path.{ap, refl}
 use Prim.Native.Nat.{ℕ, zero, suc, ◌-◌, ◌≤◌}
-use Rattle.std.proofs.Math.Decide.{dec_le, ℕ_discrete}
-use Rattle.std.proofs.Common.{arith, eq-eqb, ne_eqb}
+use Rattle.std.proofs.Math.Decide.{dec_le}
+use Rattle.std.proofs.Common.{arith}
 use Rattle.std.proofs.lemmas.Bool.{lt-leb}
 use Rattle.ask.specs.Theorems.{count_none}
-use Rattle.events.specs.Events.{after}
-use Rattle.events.specs.declared.Event.{Event}
-use Rattle.figure.specs.Figure.{line}
 use Rattle.lock.specs.Fresh.{fresh_state, idle, idle_to}
 use Rattle.lock.specs.Judged.{rule_size}
 use Rattle.lock.specs.Laws.{nth_after_front, nth_front}
@@ -21,22 +17,25 @@ use Rattle.lock.specs.Valid.{Between, Valid}
 use Rattle.lock.specs.declared.Node.{Node}
 use Rattle.lock.specs.declared.State.{State}
 use Rattle.lock.specs.declared.Thread.{Thread}
-use Rattle.number.specs.Numbers.{thread}
-use Rattle.number.specs.Refused.{done}
 use Rattle.number.specs.Sizes.{most_nodes, most_threads}
-use Rattle.number.specs.declared.NodeNo.{NodeNo}
 use Rattle.number.specs.declared.ThreadNo.{ThreadNo}
-use Rattle.machine.specs.Step.{step}
-use Rattle.machine.specs.Theorems.{accepted_possible, refused_unchanged, valid_kept}
-use Rattle.machine.proofs.Theorems.{sound}
-use Rattle.theory.specs.Demands.{accepted_at, exchange_line, exchanges, passages, section_line}
 use Rattle.theory.specs.Proof.Look.{look, threads_of}
-use Rattle.theory.specs.Proof.Steps.{Kept, Tallied, keeps}
+use Rattle.theory.specs.Queue.Counts.{Counts}
+use Rattle.theory.specs.Queue.Memory.{Memory}
+use Rattle.theory.specs.Queue.Seen.{Seen}
+use Rattle.theory.specs.Shape.Shape.{Ordered, Shape}
 use Rattle.theory.specs.Queue.Stored.{Of}
 use Rattle.theory.specs.Queue.Counts.{is_at}
-use Rattle.theory.specs.Queue.Events.{events_keep, noted}
 use Rattle.theory.specs.Queue.View.{locked_in, next_in, threads_in, used_none, used_in}
 use Rattle.theory.specs.Shape.Start.{order_start, shape_start}
+
+-- what is kept: the shape of the queue, and the order of exchanges and passages
+abbrev pub Kept : List ThreadNo → List ThreadNo → Memory → (ℕ → Seen) → Type 0
+Kept exchanged passed m th = Shape m th × Ordered th m.taker m.low m.high exchanged passed
+
+-- the counts, by the lines of this machine: at 12 the node is chosen, 14 is the exchange, and 29 the last line of the queue
+abbrev pub Tallied : State → Type 0
+Tallied s = Counts 12 14 29 s
 
 -- A state, and the threads that have exchanged and passed on the way to it. Who owns which node, who took which place, and how many places were counted
 -- before the state's own first, is given by functions and a number that no statement names.
@@ -93,33 +92,3 @@ module _ (T K : ℕ) (threads : Between 1 T most_threads) (nodes : Between 1 K m
       places = omega (arith, (count_none (is_at 15 29) start).1 (λ t b. none_at 15 29 (omega arith) t));
     };
   }
-
--- ---- one event
-module _ {s : State} {exchanged passed : List ThreadNo} (r : Reached s exchanged passed) where
-  -- accepted, it is a step of the figure
-  accepted_reached : (t : ThreadNo) (n : NodeNo) → (step s t n).answer ≡ done
-      → Reached (step s t n).state (noted (eqb (line s t) exchange_line) t exchanged) (noted (eqb (line s t) section_line) t passed)
-  accepted_reached t n ok =
-      let can = accepted_possible s t n r.valid ok in
-      let next = (step s t n).state in
-      let k = keeps r.base s t n r.valid can r.owner r.taker exchanged passed r.kept r.counts next (sound s t n r.valid ok) in
-      record { valid = valid_kept s t n r.valid ok; base = r.base; owner = k.owner'; taker = k.taker'; kept = k.seen'; counts = k.counts' }
-
-  -- refused, it leaves the state
-  pub event_reached : (e : Event)
-      → Reached (step s e.thread e.node).state (noted (accepted_at step exchange_line s e) e.thread exchanged)
-      (noted (accepted_at step section_line s e) e.thread passed)
-  event_reached e =
-      by_cases (ℕ_discrete (step s e.thread e.node).answer done)
-      (λ ok. rw (eq-eqb (step s e.thread e.node).answer done ok) (accepted_reached e.thread e.node ok))
-      (λ no. rw (ne_eqb (step s e.thread e.node).answer done no, refused_unchanged s e.thread e.node no) r)
-
--- ---- events one after the other
-pub events_reached : {s : State} {exchanged passed : List ThreadNo} → Reached s exchanged passed → (es : List Event)
-    → Reached (after step s es) (exchanged ++ exchanges step s es) (passed ++ passages step s es)
-events_reached = events_keep step exchange_line section_line Reached (λ s x y r. event_reached r)
-
--- from a fresh lock
-pub fresh_reached : (T K : ℕ) → Between 1 T most_threads → Between 1 K most_nodes → (es : List Event)
-    → let s = fresh_state T K in Reached (after step s es) (exchanges step s es) (passages step s es)
-fresh_reached T K threads nodes es = events_reached (start_reached T K threads nodes) es

@@ -1,7 +1,7 @@
 -- From an exchange on, as long as its thread has not passed, every thread passes at most once. The threads that have exchanged and not passed stand in the
 -- list of exchanges behind those that have passed; no two of them are the same, since they have different places. Who passes before a thread that
 -- exchanges behind them is one of them. For any machine with Places and Order. Assumes nothing.
-use Rattle.std.specs.Prelude.{Bool, cond, false, true, List, [], ◌∷◌, ◌++◌, ◌≡◌, refl, ℕ, suc, ◌+◌, ◌-◌, ◌≤◌, ◌<◌, eqb, drop, get_or, length}
+use Rattle.std.specs.Prelude.{Bool, cond, false, true, List, [], ◌∷◌, ◌++◌, ◌≡◌, refl, ℕ, suc, ◌+◌, ◌≤◌, ◌<◌, eqb, drop, get_or, length}
 use Rattle.std.proofs.Common.{append_assoc, ap, sym, ◌∙◌, arith, length-drop, take-append-drop, get_or-drop, eqb-true}
 use Rattle.std.proofs.lemmas.List.{append_cancel_left}
 use Rattle.std.proofs.Math.Decide.{dec_le, dec_lt, ℕ_discrete}

@@ -1,7 +1,7 @@
 -- Who stands where: what the shape says of the thread before another, of the one behind it, and of the last. Lines.antt needs these facts where a line waits
 -- (16) or reaches another thread (18, 22, 29), and Goes.antt needs them again. Each is shown by ruling out lines at which the other thread cannot be.
 -- Assumes nothing.
-use Rattle.std.specs.Prelude.{◌≢◌, ◌≡◌, ℕ, ◌+◌, ◌-◌, ◌≤◌, ◌<◌}
+use Rattle.std.specs.Prelude.{◌≢◌, ◌≡◌, ℕ, ◌+◌, ◌≤◌, ◌<◌}
 use Rattle.std.proofs.Common.{ap, ◌∙◌, arith}
 use Rattle.theory.specs.Queue.AtLines.{In, get}
 use Rattle.theory.specs.Queue.Nodes.{one_owner}

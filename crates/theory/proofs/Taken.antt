@@ -1,5 +1,5 @@
 -- The figure's own steps from a fresh lock and the events that the step accepts are the same: what a step of the figure needs besides to be accepted, that
--- followed nodes are in use and places remain, every reached state has. Rests on Reached, States and the step's `complete` and `sound`. Assumes nothing.
+-- followed nodes are in use and places remain, every reached state has. Rests on Reaches, States and the step's `complete` and `sound`. Assumes nothing.
 use Rattle.std.specs.Prelude.{true, List, [], ◌∷◌, ◌≢◌, ◌≡◌, refl}
 use Rattle.std.proofs.Math.Logic.{by_cases}
 use Rattle.std.proofs.Common.{inl, inr, ap, subst, sym, arith, eq-eqb, ne_eqb}
@@ -20,7 +20,8 @@ use Rattle.theory.specs.Demands.{done_of}
 use Rattle.theory.specs.FigureSteps.{FigureSteps, Within}
 use Rattle.theory.specs.FigureSteps.FigureSteps.{no_steps, one_step}
 use Rattle.theory.specs.Proof.States.{followed_used, room}
-use Rattle.theory.specs.Proof.Reached.{Reached, event_reached}
+use Rattle.theory.specs.Proof.Reached.{Reached}
+use Rattle.theory.proofs.Reaches.{event_reached}
 
 module _ {s : State} {exchanged passed : List ThreadNo} (r : Reached s exchanged passed) (e : Event) where
   -- in a reached state a step of the figure is possible

@@ -1,5 +1,5 @@
 -- What demand 3 says of lists of events: the passages are the first of the exchanges, no thread passes twice between another's exchange and its passage, and
--- no event is answered 9 to 11. Rests on Reached, States and Queue/Once. Assumes nothing.
+-- no event is answered 9 to 11. Rests on Reaches, States and Queue/Once. Assumes nothing.
 use Rattle.std.specs.Prelude.{true, List, [], ◌∷◌, ◌++◌, ◌≡◌, refl, ℕ, zero, suc, ◌≤◌, ◌<◌, eqb, get_or, length}
 use Rattle.std.proofs.Common.{ap, subst₂, sym, ◌∙◌, arith, length-append}
 use Rattle.std.proofs.Math.ListN.{get_or-append}
@@ -14,7 +14,8 @@ use Rattle.number.specs.declared.ThreadNo.{ThreadNo}
 use Rattle.machine.specs.Demands.{Tool}
 use Rattle.machine.specs.Step.{step}
 use Rattle.theory.specs.Demands.{Never9To11, NthPassage, PassesOnce, Prefix, accepted_at, done_at, exchange_line, exchanges, how_often, nobody, passages}
-use Rattle.theory.specs.Proof.Reached.{Reached, event_reached, events_reached}
+use Rattle.theory.specs.Proof.Reached.{Reached}
+use Rattle.theory.proofs.Reaches.{event_reached, events_reached}
 use Rattle.theory.specs.Proof.States.{never}
 use Rattle.theory.specs.Queue.Once.{once_between, passed_first, to_pass}
 

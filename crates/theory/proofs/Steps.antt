@@ -8,7 +8,7 @@ use Rattle.std.proofs.Common.{◌∙◌, arith}
 use Rattle.std.proofs.Math.Nat.{add_assoc}
 use borrow.Author.Tests.{eqb-false, eqb-true, ne_eqb}
 use Rattle.figure.specs.Figure.{◌⟪flag≔◌⟫, ◌⟪line◌≔◌⟫, ◌⟪locked◌≔◌⟫, ◌⟪low≔◌⟫, ◌⟪tail≔◌⟫}
-use Rattle.figure.specs.Figure.{Figure, entered, flag, high, line, local, low, mess, my, next, prev, succ, tail}
+use Rattle.figure.specs.Figure.{Figure, entered, high, line, local, low, mess, my, next, prev, succ, tail}
 use Rattle.figure.specs.Figure.Figure.{line11, line12, line13, line14, line15, line16, line17, line18, line19, line20, line21, line22, line23, line24}
 use Rattle.figure.specs.Figure.Figure.{line25, line26, line27, line28, line29}
 use Rattle.lock.specs.Laws.{set_twice}
@@ -26,8 +26,9 @@ use Rattle.machine.specs.Conditions.Follows.{my_at, prev_at, succ_at}
 use Rattle.machine.specs.Demands.{Possible}
 use Rattle.theory.specs.Demands.{exchange_line, section_line}
 use Rattle.theory.specs.Proof.Look.{seen_ahead, look, one_of, onward, seen_at, threads_of}
+use Rattle.theory.specs.Proof.Reached.{Kept, Tallied}
 use Rattle.theory.specs.Queue.AtLines.{In}
-use Rattle.theory.specs.Queue.Counts.{Balance, Counts}
+use Rattle.theory.specs.Queue.Counts.{Balance}
 use Rattle.theory.specs.Queue.Events.{noted}
 use Rattle.theory.specs.Queue.Functions.{upd}
 use Rattle.theory.specs.Queue.Order.{order_in, order_out, order_pass, order_stay}
@@ -41,14 +42,6 @@ use Rattle.theory.specs.Queue.Memory.{Memory}
 use Rattle.theory.specs.Shape.Shape.{Ordered, Shape}
 use Rattle.word.specs.Laws.{in_has_bit}
 use Rattle.word.specs.Word.{put_in, take_out}
-
--- what is kept: the shape of the queue, and the order of exchanges and passages
-abbrev pub Kept : List ThreadNo → List ThreadNo → Memory → (ℕ → Seen) → Type 0
-Kept exchanged passed m th = Shape m th × Ordered th m.taker m.low m.high exchanged passed
-
--- the counts, by the lines of this machine: at 12 the node is chosen, 14 is the exchange, and 29 the last line of the queue
-abbrev pub Tallied : State → Type 0
-Tallied s = Counts 12 14 29 s
 
 -- what a step from line l to line n must do to the three numbers for the counts to be kept
 abbrev Balanced : ℕ → ℕ → Shared → Shared → Type 0

@@ -18,7 +18,7 @@ use Rattle.run.specs.declared.Ran.{Ran}
 use Rattle.schedule.specs.Schedule.{events_of}
 use Rattle.machine.specs.Step.{step}
 use Rattle.theory.specs.Demands.{Is9To11, events_taken}
-use Rattle.theory.specs.Proof.Passages.{never_answered}
+use Rattle.theory.proofs.Passages.{never_answered}
 use Rattle.theory.specs.Proof.Reached.{Reached}
 
 -- what holds of 0 and of each answer holds of the stopping number

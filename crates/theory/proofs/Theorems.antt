@@ -1,5 +1,5 @@
--- Demand 3, proved: what every run from a fresh lock has. The statements are those of Demands.antt, for every T and K from 1 to 32 and every list of events,
--- or every schedule and buffer that `run` is given. The arguments are in Proof, over the shape of the queue (Shape, Queue). Assumes nothing.
+-- Demand 3, proved: what every run from a fresh lock has. The statements are those of specs/Demands, for every T and K from 1 to 32 and every list of events,
+-- or every schedule and buffer that `run` is given. The arguments are beside this, over the shape of the queue (specs/). Assumes nothing.
 use Rattle.std.specs.Prelude.{List, refl, ℕ}
 use Rattle.std.proofs.Common.{subst, sym}
 use Rattle.events.specs.Events.{after}
@@ -11,11 +11,12 @@ use Rattle.machine.specs.Step.{step}
 use Rattle.theory.specs.Demands.{Demand3, DoneAreFigure, EnteredCount, FreeExactly, FromFresh, Holds, Never9To11, NthPassage, OneHolds, OneInside}
 use Rattle.theory.specs.Demands.{PassagesPrefix, PassesOnce, RunHolds, SomeCanStep, TakesFigure, events_taken}
 use Rattle.theory.specs.FigureSteps.{FigureSteps}
-use Rattle.theory.specs.Proof.Passages
-use Rattle.theory.specs.Proof.Reached.{fresh_reached, start_reached}
-use Rattle.theory.specs.Proof.Runs
+use Rattle.theory.proofs.Passages
+use Rattle.theory.specs.Proof.Reached.{start_reached}
+use Rattle.theory.proofs.Reaches.{fresh_reached}
+use Rattle.theory.proofs.Runs
 use Rattle.theory.specs.Proof.States
-use Rattle.theory.specs.Proof.Taken
+use Rattle.theory.proofs.Taken
 
 -- ---- every list of events from a fresh lock
 
