@@ -1,34 +1,27 @@
 -- What the text promises, each under a plain sentence. First that numbers are written as everybody writes them; then what the call gives in each case;
--- then what the lines show, how long a text can be, and document 01's own run. The arguments are in Proof. Assumes nothing.
-use Rattle.std.specs.Prelude.{cond, List, [], ◌∷◌, map, ◌≢◌, ◌↔◌, ◌≡◌, refl, ℕ, ◌^◌, ◌≤◌, ◌<◌, eqb, drop, get_or, length, take}
-use Rattle.std.proofs.Common.{arith}
-use Rattle.machine.specs.Acts.{perform}
-use Rattle.ask.specs.Ask.{how_many_threads_to, status, status_of, waiting}
+-- then what the fields of the lines show. The arguments are in Proof. Assumes nothing.
+-- `text_lines`, `text_fits`, `never_short`, `prints` and `whole_run_lem`, what the lines are, how long a text can be, what is printed and document 01's own
+-- run, stand in proofs/Theorems, with their arguments beside it: how the lines go on decides them.
+use Rattle.std.specs.Prelude.{List, [], ◌∷◌, map, ◌≢◌, ◌↔◌, ◌≡◌, refl, ℕ, ◌^◌, ◌≤◌, ◌<◌, drop, get_or, length, take}
 use Rattle.events.specs.FigureRun.{FigureRun}
-use Rattle.events.specs.Row.{how_many_of, row_answers, row_end, stopping}
+use Rattle.events.specs.Row.{row_end}
 use Rattle.events.specs.Theorems.{row_figure}
-use Rattle.lines.specs.Lines.{line_at}
-use Rattle.lock.specs.Fresh.{fresh, fresh_state, idle_to}
-use Rattle.lock.specs.Valid.{nodes_valid, shared_valid, threads_valid, valid}
+use Rattle.lock.specs.Fresh.{fresh_state}
 use Rattle.number.specs.First.{First}
 use Rattle.number.specs.OneResult.{only}
 use Rattle.number.specs.Refused.{done}
-use Rattle.machine.specs.Refusals.{refusal}
-use Rattle.rows.specs.Rows.{Bytes, laid, values}
-use Rattle.run.specs.Run.{answers_of, ran_over, report_of, run}
-use Rattle.schedule.specs.Schedule.{GoodSchedule, events_of, heading_of, schedule_of}
+use Rattle.run.specs.Run.{answers_of, ran_over, run}
+use Rattle.schedule.specs.Schedule.{GoodSchedule, events_of, heading_of}
 use Rattle.schedule.specs.Theorems.{good_schedule}
 use Rattle.machine.specs.Step.{advance}
-use Rattle.word.specs.Word.{alone_in, in_use, put_in, take_out}
-use Rattle.text.specs.Decimal.{EachDigit, decimal, decimal_to, digit, letters_from, value_from}
+use Rattle.text.specs.Decimal.{EachDigit, decimal, decimal_to, digit, value_from}
 use Rattle.text.specs.Proof.Begun
 use Rattle.text.specs.Proof.Digits
 use Rattle.text.specs.Proof.Given
 use Rattle.text.specs.Proof.Shows
-use Rattle.text.specs.Proof.Sizes
-use Rattle.text.specs.Shown.{answer_in, fields_of, lines_with, page, whole_run, whole_text}
-use Rattle.text.specs.Text.{begin, end_line, event_line, event_lines, line_before, lines_of, most_text, numbers, printed}
-use Rattle.text.specs.Text.{refused_text, text, text_bytes, text_conditions, text_number, text_of, written}
+use Rattle.text.specs.Shown.{answer_in, fields_of}
+use Rattle.text.specs.Text.{begin}
+use Rattle.text.specs.Text.{text, text_bytes, text_conditions, text_of, written}
 use Rattle.text.specs.declared.Written.{Written}
 
 -- ---- numbers
@@ -87,23 +80,9 @@ module _ (b out : List ℕ) where
 
 -- ---- the lines of the events of schedule b
 module _ (b : List ℕ) where
-  -- They are the lines of these fields ..
-  pub text_lines : lines_of b ≡ lines_with (fields_of b)
-  text_lines = Shows.lines_shown 1 (begin b) (events_of b)
-
-  -- .. and show the run's answers, one for each line: "the stopping event is the last shown".
+  -- Their fields show the run's answers, one for each line: "the stopping event is the last shown".
   pub text_answers : map answer_in (fields_of b) ≡ answers_of (begin b) b
   text_answers = Shows.answers_shown 1 (begin b) (events_of b)
-
-  -- ---- how long a text can be
-  module _ (bytes : Bytes b) (rule : GoodSchedule b) where
-    -- The text of a good schedule has at most 606,235 bytes ..
-    pub text_fits : length (text_of b) ≤ most_text
-    text_fits = Sizes.text_short b bytes ((good_schedule b).1 rule)
-
-    -- .. so that a buffer of so many bytes, or more, is never too short.
-    pub never_short : (room : ℕ) → most_text ≤ room → text_number b room ≡ done
-    never_short room l = Given.number_done b room ((good_schedule b).1 rule) (omega (arith, text_fits, l))
 
   -- ---- the run that the text tells of
   module _ (rule : GoodSchedule b) where
@@ -115,19 +94,3 @@ module _ (b : List ℕ) where
     -- .. and the answers that the lines show are those of Figure 1 and the table of refusals.
     pub text_figure : FigureRun (begin b) (events_of b) (map answer_in (fields_of b)) (row_end advance (begin b) (events_of b))
     text_figure = rw text_answers (row_figure (begin b) (events_of b) (Begun.begin_valid b ((good_schedule b).1 rule)))
-
--- ---- the printing program
-
--- With room for any text, what the program writes, the text where the number is 0 and `refused 2` where it is not, is what document 01 says is printed.
-pub prints : (b out : List ℕ) → Bytes b → most_text ≤ length out
-    → cond (eqb (text b out).number done) (take (text b out).size (text_bytes b out)) refused_text ≡ printed b
-prints b out bytes room = Given.prints b out (λ h. omega (arith, text_fits b bytes ((good_schedule b).0 h), room))
-
--- ---- document 01's run
-
--- "T = K = 1, events (1,1), (1,0), (1,0), (1,0), (2,0)": its text is document 01's, line by line. (The one `unfolding` line names what it computes by.)
-pub whole_run_lem : text_of whole_run ≡ page whole_text
-unfolding text_of page letters_from event_lines event_line line_before numbers decimal decimal_to end_line events_of values schedule_of laid fresh idle_to
-    advance refusal line_at in_use alone_in put_in take_out perform ran_over report_of row_answers row_end how_many_of stopping
-    status status_of waiting how_many_threads_to valid shared_valid nodes_valid threads_valid
-whole_run_lem = refl

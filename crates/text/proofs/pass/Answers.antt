@@ -9,7 +9,7 @@ use Rattle.saved.specs.Saved.{saved_good, state_in}
 use Rattle.schedule.specs.Schedule.{events_in, events_of, no_event}
 use Rattle.schedule.specs.Theorems.{few_events, length_events}
 use Rattle.text.specs.Proof.Begun.{first_good}
-use Rattle.text.specs.Proof.Passes.{Turn, at_the_end, goes_on_lem, heading_length, line_fits, start, stops}
+use Rattle.text.proofs.Passes.{Turn, at_the_end, goes_on_lem, heading_length, line_fits, start, stops}
 use Rattle.text.proofs.pass.Goals as goal
 
 pub loop-i-init : goal.loop-i-init

@@ -2,7 +2,7 @@
 -- events are left.
 use Rattle.std.proofs.Common.{true, ◌≡◌, ◌-◌}
 use Rattle.saved.specs.Saved.{saved_good, state_in}
-use Rattle.text.specs.Proof.Passes.{Left}
+use Rattle.text.proofs.Passes.{Left}
 use Rattle.text.proofs.pass.Given as goal
 
 abbrev pub invariant-loop-i : goal.invariant-loop-i

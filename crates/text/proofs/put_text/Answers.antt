@@ -4,7 +4,7 @@ use Rattle.std.proofs.Common.{List, true, ℕ, ◌+◌, ap, arith, length, ◌�
 use Rattle.text.specs.Decimal.{letters_from}
 use Rattle.text.specs.Inner.{placed}
 use Rattle.text.specs.Proof.Given.{text_length, text_stored}
-use Rattle.text.specs.Proof.Passes.{heading_length, lines_near}
+use Rattle.text.proofs.Passes.{heading_length, lines_near}
 use Rattle.text.specs.Text.{heading, last_of, lines_of}
 use Rattle.text.proofs.put_text.Goals as goal
 

@@ -6,7 +6,7 @@ use Rattle.rows.specs.Rows.{over}
 use Rattle.schedule.specs.Schedule.{good}
 use Rattle.text.specs.Inner.{Held, Passed, placed}
 use Rattle.text.specs.Proof.Given.{bad, fits, short, text_length}
-use Rattle.text.specs.Proof.Passes.{lines_near}
+use Rattle.text.proofs.Passes.{lines_near}
 use Rattle.text.specs.Text.{last_of, text_bytes, text_of, written}
 use Rattle.text.specs.Text.{text as given}
 use Rattle.text.specs.declared.Line.{Line}

@@ -1,23 +1,18 @@
--- Lines: a line's fields one after the other, how the lines of a row of events go on, how long they are, and bytes that are stored only where they are to
--- be written. By induction over the fields and over the events. Assumes nothing.
-use Rattle.std.specs.Prelude.{Bool, List, [], ◌∷◌, ◌++◌, ◌≡◌, ℕ, suc, ◌+◌, ◌-◌, ◌*◌, ◌≤◌, ◌<◌, ltb, drop, get_or, replicate}
+-- A line's fields one after the other, how long they are, and bytes that are stored only where they are to be written. By induction over the fields. How the
+-- lines of a row of events go on is in proofs/EventLines. Assumes nothing.
+use Rattle.std.specs.Prelude.{Bool, List, [], ◌∷◌, ◌++◌, ◌≡◌, ℕ, suc, ◌+◌, ◌*◌, ◌≤◌, ◌<◌, ltb, drop, get_or, replicate}
 use Rattle.std.proofs.Math.Bool.{cond, false, true}
-use Rattle.std.proofs.Common.{append_assoc, append-nil, ap, sym, ◌∙◌, mul-suc, mul-zero, zero-add, add-one, arith, length-append, length-drop, drop-cons, le-ltb, lt-ltb, ltb-false, ltb-true}
+use Rattle.std.proofs.Common.{append_assoc, append-nil, ap, sym, ◌∙◌, zero-add, add-one, arith, length-append, length-drop, drop-cons, le-ltb, lt-ltb, ltb-false, ltb-true}
 use Rattle.std.proofs.Math.Path.{refl}
 use Rattle.std.proofs.Math.ListN.{length}
 use Rattle.std.proofs.lemmas.List.{length-replicate}
 use Rattle.std.proofs.Math.Seq.{length-sets, take-append_seam}
 use Rattle.std.proofs.lemmas.List.Edits.{sets}
-use Rattle.events.specs.Row.{goes_on}
-use Rattle.events.specs.declared.Event.{Event}
-use Rattle.lock.specs.declared.State.{State}
 use Rattle.rows.specs.Stored.{sets_append, sets_over}
-use Rattle.machine.specs.Step.{advance}
-use Rattle.machine.specs.declared.Stepped.{Stepped}
 use Rattle.text.specs.Decimal.{decimal}
 use Rattle.text.specs.Inner.{Held, line_room, placed}
 use Rattle.text.specs.Proof.Digits.{decimal_within}
-use Rattle.text.specs.Text.{event_fields, event_line, event_lines, line_end, numbers, space}
+use Rattle.text.specs.Text.{line_end, numbers, space}
 use Rattle.text.specs.declared.Line.{Line}
 
 -- ---- the fields of a line
@@ -62,45 +57,6 @@ numbers_within (n ∷ ns) =
 -- So they fit where there is room for so many.
 pub numbers_fit : (at : ℕ) (ns : List ℕ) (room : ℕ) → at + 11 * length ns ≤ room → at + length (numbers ns) ≤ room
 numbers_fit at ns room h = omega (arith, numbers_within ns)
-
--- ---- the lines
-
-event_line_within : (n : ℕ) (s : State) (e : Event) (r : Stepped) → length (event_line n s e r) ≤ line_room
-unfolding event_line
-event_line_within n s e r = numbers_within (event_fields n s e r)
-
-pub lines_none : (n : ℕ) (s : State) → event_lines n s [] ≡ []
-unfolding event_lines
-lines_none n s = refl
-
--- The line of the first event, and then the others' where it goes on.
-pub lines_cons : (n : ℕ) (s : State) (e : Event) (es : List Event) (r : Stepped) → r ≡ advance s e.thread e.node
-    → event_lines n s (e ∷ es) ≡ event_line n s e r ++ cond (goes_on r.answer) (event_lines (n + 1) r.state es) []
-unfolding event_lines
-lines_cons n s e es r given = rw given
-
--- The lines are no longer than so many bytes for each event, if each line is no longer than that. What is known of the events and the state, and is kept
--- from one event to the next, may help with that.
-pub lines_at_most : (most : ℕ) (Known : ℕ → State → List Event → Type 0)
-    → ((n : ℕ) (s : State) (e : Event) (es : List Event) → Known n s (e ∷ es) → let r = advance s e.thread e.node in
-    (length (event_line n s e r) ≤ most) × Known (n + 1) r.state es)
-    → (n : ℕ) (s : State) (es : List Event) → Known n s es → length (event_lines n s es) ≤ most * length es
-lines_at_most most Known turn n s [] known = rw (lines_none n s) (omega (arith, mul-zero most))
-lines_at_most most Known turn n s (e ∷ es) known =
-    let r : Stepped = advance s e.thread e.node in
-    let here = turn n s e es known in
-    let others = lines_at_most most Known turn (n + 1) r.state es here.1 in
-    let cut = cut_short (goes_on r.answer) (event_lines (n + 1) r.state es) in
-    rw (lines_cons n s e es r refl) (simp length-append (omega (arith, here.0, cut, others, mul-suc most (length es))))
-  where
-    cut_short : (t : Bool) (xs : List ℕ) → length (cond t xs []) ≤ length xs
-    cut_short true xs = omega arith
-    cut_short false xs = omega arith
-
--- Whatever the numbers are, each line has room in the array that it is made in.
-pub lines_within : (n : ℕ) (s : State) (es : List Event) → length (event_lines n s es) ≤ line_room * length es
-lines_within n s es =
-    lines_at_most line_room (λ n s es. Unit {0}) (λ n s e es known. (event_line_within n s e (advance s e.thread e.node), tt)) n s es tt
 
 -- ---- bytes that are stored only where they are to be written
 module _ (write : Bool) (out : List ℕ) (at : ℕ) where

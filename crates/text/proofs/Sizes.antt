@@ -1,5 +1,5 @@
 -- How long the text of a good schedule can be. From a valid state every field of a line has few digits, and a row from a valid state stays valid (crate
--- `events`); a schedule has at most 16,383 events. Rests on Digits and Lines. Assumes nothing.
+-- `events`); a schedule has at most 16,383 events. Rests on EventLines, and on Digits and Lines (specs/). Assumes nothing.
 use Rattle.std.specs.Prelude.{Bool, List, [], ◌∷◌, ◌≡◌, ℕ, suc, ◌+◌, ◌*◌, ◌≤◌, ◌<◌, eqb, ltb, get_or}
 use Rattle.std.proofs.Math.Bool.{cond, false, true}
 use Rattle.std.proofs.Math.Path.{refl}
@@ -17,7 +17,6 @@ use Rattle.events.specs.declared.Event.{Event}
 use Rattle.lock.specs.State.{thread_at}
 use Rattle.lock.specs.Valid.{Valid, valid}
 use Rattle.lock.specs.declared.State.{State}
-use Rattle.number.specs.Numbers.{thread}
 use Rattle.number.specs.Refused.{bad_state, done, must_wait, no_place_left}
 use Rattle.number.specs.Sizes.{last_line}
 use Rattle.number.specs.Tests.{neither_holds}
@@ -32,8 +31,9 @@ use Rattle.text.specs.Decimal.{decimal, letters_from}
 use Rattle.text.specs.Proof.Begun.{begin_valid}
 use Rattle.text.specs.Proof.Digits.{decimal_short}
 use Rattle.text.specs.Proof.Given.{text_length}
-use Rattle.text.specs.Proof.Lines.{lines_at_most, numbers_cons, numbers_none}
-use Rattle.text.specs.Proof.Passes.{heading_length}
+use Rattle.text.specs.Proof.Lines.{numbers_cons, numbers_none}
+use Rattle.text.proofs.EventLines.{lines_at_most}
+use Rattle.text.proofs.Passes.{heading_length}
 use Rattle.text.specs.Text.{begin, end_fields, end_line, event_line, event_lines, line_before, most_text, numbers, text_of}
 
 -- ---- a field of at most k digits, before fields of at most m bytes

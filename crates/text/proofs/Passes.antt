@@ -1,5 +1,5 @@
 -- One pass over the events of a schedule: the law of its loop. What is left of the lines, stored from the present place on, makes the lines of all events
--- from behind the heading on; an event's turn keeps that, and where the row is over nothing is left. Rests on Lines. Assumes nothing.
+-- from behind the heading on; an event's turn keeps that, and where the row is over nothing is left. Rests on EventLines. Assumes nothing.
 use Rattle.std.specs.Prelude.{Bool, cond, false, true, List, [], ◌++◌, ◌≡◌, refl, ℕ, ◌+◌, ◌≤◌, ◌<◌, drop, get_or, length, take}
 use Rattle.std.proofs.Common.{ap, sym, ◌∙◌, add-one, arith, length-append, drop-cons}
 use Rattle.std.proofs.Math.Seq.{drop-length}
@@ -12,7 +12,8 @@ use Rattle.machine.specs.Step.{advance}
 use Rattle.machine.specs.declared.Stepped.{Stepped}
 use Rattle.text.specs.Decimal.{letters_from}
 use Rattle.text.specs.Inner.{Held, LineFits, LinesFit, Passed, farthest, placed}
-use Rattle.text.specs.Proof.Lines.{lines_cons, lines_none, lines_within, placed_append, placed_length, placed_none}
+use Rattle.text.specs.Proof.Lines.{placed_append, placed_length, placed_none}
+use Rattle.text.proofs.EventLines.{lines_cons, lines_none, lines_within}
 use Rattle.text.specs.Text.{begin, event_line, event_lines, heading, lines_of}
 use Rattle.text.specs.declared.Line.{Line}
 
