@@ -1,31 +1,29 @@
 -- What the calls for C and Rust promise: the theorems that a buyer needs, each under a plain sentence, call by call. The arguments are in Proof, and in
 -- the theorems of the crates below. Assumes nothing.
+-- `sedge_run_refused`, `sedge_run_accepted` and `sedge_run_figure` stand in proofs/Theorems: what the bytes of a state are after a run decides them.
 use Rattle.std.specs.Prelude.{List, ◌++◌, ◌≢◌, ◌⊎◌, ◌↔◌, ◌≡◌, ℕ, drop, length, take}
-use Rattle.std.proofs.Common.{ap, ◌∙◌}
+use Rattle.std.proofs.Common.{ap}
 use Rattle.ask.specs.Ask.{answered, how_many_threads, refused}
 use Rattle.ask.specs.Meaning.{ChainOf, StatusIs, at16or19}
 use Rattle.ask.specs.Theorems.{chain_answer, chain_exactly, chain_refused, in_use_nodes, status_exactly, waiting_lines}
 use Rattle.ask.specs.declared.Asked.{Asked}
-use Rattle.events.specs.FigureRun.{FigureRun}
 use Rattle.lent.specs.Lent.{lent_conditions}
 use Rattle.lent.specs.Theorems.{lent_accepted, lent_exactly, lent_refused}
 use Rattle.lock.specs.Fresh.{fresh_state, opened}
 use Rattle.lock.specs.Valid.{Between}
-use Rattle.lock.specs.declared.State.{State}
 use Rattle.number.specs.First.{First, NoneApply}
 use Rattle.number.specs.Numbers.{node, thread}
 use Rattle.number.specs.OneResult.{only}
 use Rattle.number.specs.Refused.{bad_state, done, no_place_left, no_such_thread, too_short}
-use Rattle.rows.specs.Rows.{Bytes, laid, over}
-use Rattle.run.specs.Run.{answers_of, report_of}
-use Rattle.run.specs.Theorems.{run_figure, run_stops, unread_rest}
-use Rattle.run.specs.declared.Ran.{Ran}
+use Rattle.rows.specs.Rows.{Bytes, laid}
+use Rattle.run.specs.Run.{answers_of}
+use Rattle.run.specs.Theorems.{run_stops, unread_rest}
 use Rattle.saved.specs.Saved.{SavedFile, read, size}
 use Rattle.schedule.specs.Schedule.{event_record, events_of}
 use Rattle.machine.specs.Step.{step}
 use Rattle.word.specs.Word.{how_many_to}
 use Rattle.board.specs.Board.{RunGives, ask_chain, ask_chain_bytes, ask_chain_conditions, ask_in_use, ask_status, ask_waiting, check_number, fresh_bytes}
-use Rattle.board.specs.Board.{fresh_conditions, fresh_number, held_in, run_answers, run_conditions, run_number, run_of, run_report, run_saved, run_unread}
+use Rattle.board.specs.Board.{fresh_conditions, fresh_number, held_in, run_answers, run_conditions, run_number, run_report, run_saved, run_unread}
 use Rattle.board.specs.Board.{saved_conditions, step_bytes, step_number}
 use Rattle.board.specs.Proof.Asked as Question
 use Rattle.board.specs.Proof.Fresh
@@ -97,15 +95,6 @@ module _ (b schedule answers : List ℕ) where
     pub none_waited : (run_report b schedule answers).waited ≡ 0
     pub whole_unread : run_unread b schedule answers ≡ 0
 
-  pub sedge_run_refused : Between bad_state (run_number b schedule answers) too_short → RunRefused
-  sedge_run_refused low = record {
-    state_stays = Runs.of_refused b schedule answers low;
-    answers_stay = Runs.answers_stay b schedule answers low;
-    none_executed = (Runs.no_counts b schedule answers low).0;
-    none_waited = (Runs.no_counts b schedule answers low).1;
-    whole_unread = Runs.whole_unread b schedule answers low;
-  }
-
   -- Any other number means that nothing refused the run: it is given exactly when no condition applies.
   pub sedge_run_none_exactly : (¬ Between bad_state (run_number b schedule answers) too_short) ↔ NoneApply (run_conditions b schedule (length answers))
   sedge_run_none_exactly = Runs.none_exactly b schedule answers
@@ -115,11 +104,6 @@ module _ (b schedule answers : List ℕ) where
     pub sedge_run_stops : (run_number b schedule answers ≡ done) ⊎ Between no_such_thread (run_number b schedule answers) no_place_left
     sedge_run_stops = run_stops (held_in b) schedule answers (Runs.accepted b schedule answers off)
 
-    -- The bytes are read as the state that the run ends in, and there are as many of them as before.
-    pub sedge_run_accepted : (read (run_saved b schedule answers) ≡ opened done (run_of b schedule answers).state)
-        × (length (run_saved b schedule answers) ≡ length b)
-    sedge_run_accepted = Runs.reads_end b schedule answers off
-
     -- If nothing stopped it, no part of the schedule is unread ..
     pub sedge_run_ended : run_number b schedule answers ≡ done → run_unread b schedule answers ≡ length schedule
     sedge_run_ended = Runs.none_unread b schedule answers
@@ -128,15 +112,6 @@ module _ (b schedule answers : List ℕ) where
     pub sedge_run_rest : Bytes schedule → run_number b schedule answers ≢ done
         → drop (run_unread b schedule answers) schedule ≡ laid event_record (drop (length (answers_of (held_in b) schedule)) (events_of schedule))
     sedge_run_rest = unread_rest (held_in b) schedule answers (Runs.accepted b schedule answers off)
-
-    -- However Figure 1 and the table of refusals answer the events, these are the run's answers, its counts, its stopping number and the state that
-    -- the bytes then hold.
-    pub sedge_run_figure : (told : List ℕ) (s' : State) → FigureRun (held_in b) (events_of schedule) told s'
-        → (run_report b schedule answers ≡ report_of told) × (run_answers b schedule answers ≡ over told answers)
-        × (read (run_saved b schedule answers) ≡ opened done s')
-    sedge_run_figure told s' f =
-        let is = run_figure (held_in b) schedule answers (Runs.accepted b schedule answers off) told s' f in
-        (ap (λ (r : Ran). r.report) is.0, is.1, sedge_run_accepted.0 ∙ ap (λ (r : Ran). opened done r.state) is.0)
 
 -- Two results that both meet the promise are equal: the number, the three numbers that are stored, the bytes of the state and those of the answers.
 pub sedge_run_one_result : (b schedule answers : List ℕ) (r r' x x' w w' u u' : ℕ) (after after' told told' : List ℕ)

@@ -1,9 +1,9 @@
 -- `board::sedge_run` meets its contract: the three numbers and the result are taken from the report of the run in the bytes, which leaves the bytes that
--- the call promises (Runs). Assumes nothing.
+-- the call promises (RunLeft). Assumes nothing.
 use Rattle.std.proofs.Common.{ap, ◌∙◌}
 use Rattle.run.specs.Run.{unread_from}
 use Rattle.run.specs.declared.Report.{Report}
-use Rattle.board.specs.Proof.Runs.{left_is}
+use Rattle.board.proofs.RunLeft.{left_is}
 use Rattle.board.proofs.sedge_run.Goals as goal
 
 pub returns : goal.returns

@@ -1,40 +1,22 @@
--- A run over a lent saved state. A number of 1 to 4 means that the run was refused, and any other that it was not; then the state it ends in is valid and
--- has the same T and K, so its bytes are as many as those that were read. Rests on the theorems of `run` and `saved`. Assumes nothing.
-use Rattle.std.specs.Prelude.{false, true, List, ◌≢◌, ◌↔◌, ◌≡◌, refl, ℕ, leb, drop, length}
+-- A run over a lent saved state. A number of 1 to 4 means that the run was refused, and any other that it was not. What bytes it leaves is in proofs/RunLeft.
+-- Rests on the theorems of `run` and `saved`. Assumes nothing.
+use Rattle.std.specs.Prelude.{List, ◌≢◌, ◌↔◌, ◌≡◌, refl, ℕ, drop, length}
 use Rattle.std.proofs.Math.Logic.{by_cases}
-use Rattle.std.proofs.Common.{⊎_elim, ap, sym, ◌∙◌, arith}
+use Rattle.std.proofs.Common.{⊎_elim, ap, arith}
 use Rattle.std.proofs.Math.Decide.{ℕ_discrete}
-use borrow.Author.Tests.{eq-eqb, le-leb, leb-true, ne_eqb}
-use Rattle.lock.specs.Fresh.{opened}
-use Rattle.lock.specs.Valid.{Between, Valid}
+use borrow.Author.Tests.{eq-eqb, le-leb, ne_eqb}
+use Rattle.lock.specs.Valid.{Between}
 use Rattle.lock.specs.declared.State.{State}
 use Rattle.number.specs.First.{First}
 use Rattle.number.specs.Refused.{bad_state, done, too_short}
-use Rattle.number.specs.Tests.{both_hold, cannot_hold, first_holds, second_holds}
 use Rattle.run.specs.Conditions.{Accepted, NoneApply, conditions}
 use Rattle.run.specs.Proof.Refused.{refusal_at_most}
-use Rattle.run.specs.Run.{ran, refusal, reported, run, unread_from}
-use Rattle.run.specs.Saved.{run_left}
+use Rattle.run.specs.Run.{ran, refusal, reported, unread_from}
 use Rattle.run.specs.Theorems.{accepted_exactly, refused_exactly, run_refused, run_size, run_stops, run_valid, stop_exactly}
 use Rattle.run.specs.Theorems as Run
 use Rattle.run.specs.declared.Ran.{Ran}
-use Rattle.saved.specs.Saved.{bytes_of, read}
-use Rattle.saved.specs.Theorems.{good_file, read_save, read_size, saved_size}
-use Rattle.board.specs.Board.{held_in, is_refusal, run_answers, run_conditions, run_number, run_of, run_report, run_saved, run_unread}
+use Rattle.board.specs.Board.{held_in, run_answers, run_conditions, run_number, run_of, run_report, run_unread}
 use Rattle.board.specs.Proof.Held.{first_same, held_sized, held_valid}
-
--- ---- 1 to 4, by the test and as a range
-is_refusal_lem : (m : ℕ) → Between bad_state m too_short → is_refusal m ≡ true
-is_refusal_lem m low = both_hold (le-leb _ _ low.from) (le-leb _ _ low.to)
-
-refusal_is : (m : ℕ) → is_refusal m ≡ true → Between bad_state m too_short
-refusal_is m h = record {
-  from = leb-true _ _ (first_holds (leb bad_state m) (leb m too_short) h);
-  to = leb-true _ _ (second_holds (leb bad_state m) (leb m too_short) h);
-}
-
-no_refusal : (m : ℕ) → ¬ Between bad_state m too_short → is_refusal m ≡ false
-no_refusal m off = cannot_hold (is_refusal m) (λ h. off (refusal_is m h))
 
 module _ (b e o : List ℕ) where
   abbrev s : State
@@ -55,12 +37,12 @@ module _ (b e o : List ℕ) where
   abbrev accepted_state : (refusal s e (length o) ≡ done) ↔ Accepted s e (length o)
   accepted_state = accepted_exactly s e (length o) (held_sized b)
 
-  refused_low : refusal s e (length o) ≢ done → Between bad_state (run_number b e o) too_short
+  pub refused_low : refusal s e (length o) ≢ done → Between bad_state (run_number b e o) too_short
   refused_low off =
       let range : Between bad_state (refusal s e (length o)) too_short = record { from = omega arith; to = refusal_at_most s e (length o) } in
       rw (ap (λ (r : Ran). r.report.stop) (run_refused s e o _ refl off).0) range
 
-  accepted_not_low : refusal s e (length o) ≡ done → ¬ Between bad_state (run_number b e o) too_short
+  pub accepted_not_low : refusal s e (length o) ≡ done → ¬ Between bad_state (run_number b e o) too_short
   accepted_not_low on low =
       ⊎_elim (λ z. omega (arith, low.from, z)) (λ high. omega (arith, low.to, high.from)) (run_stops s e o (accepted_state.0 on))
 
@@ -72,10 +54,6 @@ module _ (b e o : List ℕ) where
 
     stays : (run_of b e o ≡ ran (reported 0 0 (run_number b e o)) s) × (run_answers b e o ≡ o)
     stays = run_refused s e o (run_number b e o) refuses (λ z. omega (arith, low.from, z))
-
-    pub of_refused : run_saved b e o ≡ b
-    unfolding run_saved
-    of_refused = rw (is_refusal_lem _ low)
 
     pub answers_stay : run_answers b e o ≡ o
     answers_stay = stays.1
@@ -91,42 +69,6 @@ module _ (b e o : List ℕ) where
   module _ (off : ¬ Between bad_state (run_number b e o) too_short) where
     pub accepted : Accepted s e (length o)
     accepted = by_cases (ℕ_discrete (refusal s e (length o)) done) accepted_state.0 (λ refused. absurd (off (refused_low refused)))
-
-    abbrev end : State
-    end = (run_of b e o).state
-
-    opens : (read b).number ≡ done
-    opens = (good_file b).1 ((held_valid b).0 accepted.state)
-
-    end_valid : Valid end
-    end_valid = run_valid s e o accepted
-
-    same_length : length (bytes_of end) ≡ length b
-    same_length =
-        let same = run_size s e o accepted in
-        (saved_size end end_valid).0 ∙ rw (same.threads, same.nodes) (sym (read_size b opens))
-
-    of_accepted : run_saved b e o ≡ bytes_of end
-    unfolding run_saved
-    of_accepted = rw (no_refusal _ off)
-
-    pub reads_end : (read (run_saved b e o) ≡ opened done end) × (length (run_saved b e o) ≡ length b)
-    reads_end = rw of_accepted (read_save end end_valid, same_length)
-
-  -- ---- the bytes that the run in place leaves are those that the call promises
-  left_end : refusal s e (length o) ≡ done → run_left b e o ≡ bytes_of (run_of b e o).state
-  unfolding run_left run
-  left_end z = rw (eq-eqb _ _ z)
-
-  left_same : refusal s e (length o) ≢ done → run_left b e o ≡ b
-  unfolding run_left
-  left_same z = rw (ne_eqb _ _ z)
-
-  pub left_is : run_left b e o ≡ run_saved b e o
-  left_is =
-      by_cases (ℕ_discrete (refusal s e (length o)) done)
-      (λ on. left_end on ∙ sym (of_accepted (accepted_not_low on)))
-      (λ off. left_same off ∙ sym (of_refused (refused_low off)))
 
   -- ---- nothing refuses the run exactly if no condition applies
   abbrev none_of_state : (refusal s e (length o) ≡ done) ↔ NoneApply (conditions s e (length o))
