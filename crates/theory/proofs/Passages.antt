@@ -16,7 +16,7 @@ use Rattle.machine.specs.Step.{step}
 use Rattle.theory.specs.Demands.{Never9To11, NthPassage, PassesOnce, Prefix, accepted_at, done_at, exchange_line, exchanges, how_often, nobody, passages}
 use Rattle.theory.specs.Proof.Reached.{Reached}
 use Rattle.theory.proofs.Reaches.{event_reached, events_reached}
-use Rattle.theory.specs.Proof.States.{never}
+use Rattle.theory.proofs.States.{never}
 use Rattle.theory.specs.Queue.Once.{once_between, passed_first, to_pass}
 
 -- what stands at a place of the front stands there in the whole

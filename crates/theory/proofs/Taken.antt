@@ -19,7 +19,7 @@ use Rattle.machine.specs.declared.Stepped.{Stepped}
 use Rattle.theory.specs.Demands.{done_of}
 use Rattle.theory.specs.FigureSteps.{FigureSteps, Within}
 use Rattle.theory.specs.FigureSteps.FigureSteps.{no_steps, one_step}
-use Rattle.theory.specs.Proof.States.{followed_used, room}
+use Rattle.theory.proofs.States.{followed_used, room}
 use Rattle.theory.specs.Proof.Reached.{Reached}
 use Rattle.theory.proofs.Reaches.{event_reached}
 

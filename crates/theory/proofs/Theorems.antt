@@ -15,7 +15,7 @@ use Rattle.theory.proofs.Passages
 use Rattle.theory.specs.Proof.Reached.{start_reached}
 use Rattle.theory.proofs.Reaches.{fresh_reached}
 use Rattle.theory.proofs.Runs
-use Rattle.theory.specs.Proof.States
+use Rattle.theory.proofs.States
 use Rattle.theory.proofs.Taken
 
 -- ---- every list of events from a fresh lock
