@@ -38,8 +38,8 @@
  *   - A refused call changes no byte of a buffer. (A run that an event stops is not refused: see sedge_run.)
  *   - A number that is handed back through a pointer is written in every case. It is 0 where the call is refused.
  *   - The library keeps nothing between calls. Two threads may call at once on different buffers.
- *   - It takes no memory but the stack, as measured on x86-64: sedge_step 112 bytes, sedge_run 272, the others at most 240, and sedge_chain
- *     48 more for each node of the chain. It copies no state: every call works on the bytes that it was lent.
+ *   - It takes no memory but the stack, as measured on x86-64 with an older kit: sedge_step 112 bytes, sedge_run 272, the others at most
+ *     240, and sedge_chain 48 more for each node of the chain. It copies no state: every call works on the bytes that it was lent.
  *
  * To link, on x86-64:  cc example.c -Iinclude crates/board/out/libboard.a
  * The archive needs nothing but memcpy and memset of the C library.

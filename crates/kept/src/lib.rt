@@ -1,5 +1,5 @@
 // The step over a state that the host keeps: the state is changed where it stands, with the results of the step by value. Rests on
-// `step`, which judges the state first. The proof is a walk by hand, so the one function is thin: the work is `step::step`.
+// `step`, which judges the state first and does the work.
 #![tactic(auto)]
 
 ghost use Rattle.std.specs.Prelude.{◌≡◌};

@@ -1,5 +1,6 @@
 -- Demands 1 and 2 for a step, as statements about any tool that is offered as one: that its answers are document 01's, that a refusal leaves the state
--- alone, and that it is sound and complete against Figure 1. Theorems.antt proves them of our step, and that they leave no second tool. Assumes nothing.
+-- alone, and that it is sound and complete against Figure 1. Theorems.antt, here
+-- and in proofs/, proves them of our step, and that they leave no second tool. Assumes nothing.
 use Rattle.std.specs.Prelude.{true, ◌≢◌, ◌↔◌, ◌≡◌, ℕ, ◌≤◌, ◌<◌}
 use Rattle.figure.specs.Figure.{Figure, entered, high, line, local, low}
 use Rattle.lock.specs.State.{thread_at}

@@ -1,5 +1,5 @@
 -- One event: "One event executes one line of one thread." The executable definition that the step's contract cites. What it means is said by the
--- theorems (Theorems.antt), against Figure 1 and against the conditions of document 01. Assumes nothing.
+-- theorems (Theorems.antt, here and in proofs/), against Figure 1 and against the conditions of document 01. Assumes nothing.
 use Rattle.std.specs.Prelude.{Bool, cond, ◌||◌, ℕ, eqb, ltb}
 use Rattle.figure.specs.Figure.{line}
 use Rattle.lines.specs.Lines.{line_at}

@@ -85,7 +85,7 @@ unfoldable pub text_of : List ℕ → List ℕ
 text_of b = heading ++ lines_of b ++ last_of b
 
 -- What no text of a good schedule is longer than: the heading's 40 bytes, 37 for each of at most 16,383 events, and 24 for the last line (`text_fits` of
--- Theorems.antt).
+-- proofs/Theorems.antt).
 abbrev pub most_text : ℕ
 most_text = 606_235
 
