@@ -7,7 +7,6 @@ ghost use Rattle.schedule.specs.Schedule.{most_bytes};
 ghost use Rattle.text.specs.Text.{most_text};
 
 use number::DONE;
-use std::io;
 use std::io::{Print, Read, Stdin};
 use text::MOST_TEXT;
 
@@ -49,21 +48,29 @@ fn read_all(source: &mut Stdin, input: &mut [u8]) -> usize
 
 // Writes the text of the schedule, by way of `out`, or that it is refused. `out` has room for any text, so that this is what document
 // 01 says is printed (`prints` of crate `text`).
-fn print(rt: HostRuntime, schedule: &[u8], out: &mut [u8]) -> io::Result<()> {
+fn print(rt: HostRuntime, schedule: &[u8], out: &mut [u8]) {
     let written = text::text(schedule, out);
     if written.number == DONE {
         let n = written.size;
-        rt.write_all(&out[..n])
+        write(rt, &out[..n]);
     } else {
         let refused = text::refused_text();
-        rt.write_all(&refused)
+        write(rt, &refused);
     }
 }
 
-fn main(rt: HostRuntime) -> io::Result<()> {
+// Writes to standard output. Where that is closed or full, the program ends quietly.
+fn write(rt: HostRuntime, bytes: &[u8]) {
+    match rt.write_all(bytes) {
+        Ok(()) => (),
+        Err(_) => (),
+    }
+}
+
+fn main(rt: HostRuntime) {
     let mut input = input_room();
     let mut source = rt.stdin();
     let n = read_all(&mut source, &mut input);
     let mut out = text_room();
-    print(rt, &input[..n], &mut out)
+    print(rt, &input[..n], &mut out);
 }

@@ -10,9 +10,9 @@ use Rattle.show.proofs.print.Goals as goal
 within : (schedule out out' : List ℕ) (w : Written) → w ≡ text schedule out → length out' ≡ length out → w.size ≤ length out'
 within schedule out out' w gives long = omega (arith, ap (λ (x : Written). x.size) gives, text_within schedule out, long)
 
-pub slice_bounds-write_all-end : goal.slice_bounds-write_all-end
-slice_bounds-write_all-end c = within c.args.schedule.now c.args.out.now _ _ c.text-written.ensures.gives c.text-written.auto.out
+pub slice_bounds-write-end : goal.slice_bounds-write-end
+slice_bounds-write-end c = within c.args.schedule.now c.args.out.now _ _ c.text-written.ensures.gives c.text-written.auto.out
 
-pub slice_bounds-write_all-end-then-written-eq-DONE : goal.slice_bounds-write_all-end-then-written-eq-DONE
-slice_bounds-write_all-end-then-written-eq-DONE c =
+pub slice_bounds-write-end-then-written-eq-DONE : goal.slice_bounds-write-end-then-written-eq-DONE
+slice_bounds-write-end-then-written-eq-DONE c =
     sym (length-take-le _ _ (within c.args.schedule.now c.args.out.now _ _ c.text-written.ensures.gives c.text-written.auto.out))
