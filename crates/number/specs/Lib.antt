@@ -7,3 +7,4 @@ pub mod First
 pub mod Tests
 pub mod FirstThat
 pub mod OneResult
+pub mod Answer

@@ -3,6 +3,8 @@
 #![tactic(auto)]
 
 ghost use Rattle.std.specs.Prelude.{cond, ◌≡◌};
+ghost use Rattle.number.specs.Numbers.{is_bottom};
+ghost use Rattle.number.specs.Answer.{answer_of, number_of, refused_if};
 
 // T threads, 1 to 32, numbered from 1.
 pub const MOST_THREADS: u8 = 32;
@@ -17,6 +19,48 @@ pub const LAST_PLACE: u32 = 1_000_001;
 pub const FIRST_LINE: u8 = 11;
 
 pub const LAST_LINE: u8 = 29;
+
+// Why a call is refused, in the order of document 01's table; the number of each is the table's.
+#[derive(Clone, Copy, Debug, PartialEq, Eq)]
+pub enum Refusal {
+    BadState = 1,
+    BadSchedule = 2,
+    BadSize = 3,
+    TooShort = 4,
+    NoSuchThread = 5,
+    WrongNode = 6,
+    NoEntryLeft = 7,
+    NodeTaken = 8,
+    FollowedEmpty = 9,
+    FollowedUnused = 10,
+    NoPlaceLeft = 11,
+    MustWait = 12,
+}
+
+impl From<Refusal> for u8 {
+    ghost from_gives = { λ refusal number. number ≡ number_of refusal };
+
+    fn from(refusal: Refusal) -> u8 {
+        refusal as u8
+    }
+}
+
+// The number that an answer is told by: success is 0.
+pub fn answer_number(answer: Result<(), Refusal>) -> u8
+    ensures { result ≡ answer_of answer }
+{
+    match answer {
+        Ok(()) => DONE,
+        Err(refusal) => u8::from(refusal),
+    }
+}
+
+// "The first that applies, in this order, is given": the refusal where its test holds; `?` goes on to what the later tests give.
+pub fn refuse(test: bool, refusal: Refusal) -> Result<(), Refusal>
+    ensures { result ≡ refused_if test refusal }
+{
+    if test { Err(refusal) } else { Ok(()) }
+}
 
 // Refusal numbers, each given exactly when the table of document 01 says; success is 0.
 pub const DONE: u8 = 0;
@@ -46,14 +90,25 @@ pub const NO_PLACE_LEFT: u8 = 11;
 pub const MUST_WAIT: u8 = 12;
 
 // A thread number, a node number and a place in the queue: a 3 in one is never read as a 3 in another.
-#[derive(Clone, Copy)]
+#[derive(Clone, Copy, Debug, PartialEq, Eq)]
 pub struct ThreadNo(pub u8);
 
-#[derive(Clone, Copy)]
+#[derive(Clone, Copy, Debug, PartialEq, Eq)]
 pub struct NodeNo(pub u8);
 
-#[derive(Clone, Copy)]
+#[derive(Clone, Copy, Debug, PartialEq, Eq)]
 pub struct Place(pub u32);
+
+impl NodeNo {
+    // "Node 0 is the figure's ⊥."
+    pub const BOTTOM: NodeNo = NodeNo(0);
+
+    pub fn is_bottom(self) -> bool
+        ensures { result ≡ is_bottom self }
+    {
+        self == NodeNo::BOTTOM
+    }
+}
 
 // "The first that applies, in this order, is given": the number where its test holds, else what the later tests give.
 pub fn first(test: bool, number: u8, later: u8) -> u8

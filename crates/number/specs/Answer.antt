@@ -1,0 +1,48 @@
+-- Where an answer is an enum: document 01's number of each of its cases. "Where an answer is an enum, a definition gives this paper's number and values for
+-- each of its cases. The promises use that definition." Assumes nothing.
+use Rattle.std.specs.Prelude.{Bool, cond, ◌≢◌, ℕ}
+use Rattle.std.proofs.Common.{Err, Ok, Result, arith}
+use Rattle.number.specs.Refused.{bad_schedule, bad_size, bad_state, done, followed_empty, followed_unused, must_wait, no_entry_left, no_place_left}
+use Rattle.number.specs.Refused.{no_such_thread, node_taken, too_short, wrong_node}
+use Rattle.number.specs.declared.Refusal.{Refusal}
+use Rattle.number.specs.declared.Refusal.TheVariants.{BadSchedule, BadSize, BadState, FollowedEmpty, FollowedUnused, MustWait, NoEntryLeft, NoPlaceLeft}
+use Rattle.number.specs.declared.Refusal.TheVariants.{NoSuchThread, NodeTaken, TooShort, WrongNode}
+
+-- the number of a refusal
+abbrev pub number_of : Refusal → ℕ
+number_of BadState = bad_state
+number_of BadSchedule = bad_schedule
+number_of BadSize = bad_size
+number_of TooShort = too_short
+number_of NoSuchThread = no_such_thread
+number_of WrongNode = wrong_node
+number_of NoEntryLeft = no_entry_left
+number_of NodeTaken = node_taken
+number_of FollowedEmpty = followed_empty
+number_of FollowedUnused = followed_unused
+number_of NoPlaceLeft = no_place_left
+number_of MustWait = must_wait
+
+-- the number of an answer: "Success is 0."
+abbrev pub answer_of : {A : Type 0} → Result A Refusal → ℕ
+answer_of (Ok _) = done
+answer_of (Err r) = number_of r
+
+-- the refusal where its test holds
+abbrev pub refused_if : Bool → Refusal → Result Unit Refusal
+refused_if test r = cond test (Err r) (Ok tt)
+
+-- no refusal has the number of success
+pub refused : (r : Refusal) → number_of r ≢ done
+refused BadState h = omega arith
+refused BadSchedule h = omega arith
+refused BadSize h = omega arith
+refused TooShort h = omega arith
+refused NoSuchThread h = omega arith
+refused WrongNode h = omega arith
+refused NoEntryLeft h = omega arith
+refused NodeTaken h = omega arith
+refused FollowedEmpty h = omega arith
+refused FollowedUnused h = omega arith
+refused NoPlaceLeft h = omega arith
+refused MustWait h = omega arith
