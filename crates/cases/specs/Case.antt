@@ -4,7 +4,7 @@ use Rattle.std.proofs.Math.Dec.{eqb}
 use Rattle.ask.specs.Ask.{status as status_asked}
 use Rattle.lock.specs.Fresh.{opened}
 use Rattle.lock.specs.State.{node_at, thread_at}
-use Rattle.lock.specs.declared.Opened.{Opened}
+use Rattle.lock.specs.Fresh.{Opened}
 use Rattle.lock.specs.declared.State.{State}
 use Rattle.number.specs.Numbers.{node, thread}
 use Rattle.number.specs.Refused.{done}

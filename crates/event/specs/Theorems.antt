@@ -1,7 +1,7 @@
 -- What an event that is executed in place promises: the theorem that a buyer needs, under a plain sentence. The arguments are in Proof. Assumes nothing.
 use Rattle.std.specs.Prelude.{List, ◌≡◌, ℕ}
 use Rattle.std.proofs.Common.{ap, ◌∙◌}
-use Rattle.lock.specs.declared.Opened.{Opened}
+use Rattle.lock.specs.Fresh.{Opened}
 use Rattle.lock.specs.declared.State.{State}
 use Rattle.machine.specs.Step.{advance, stepped}
 use Rattle.number.specs.Refused.{done}

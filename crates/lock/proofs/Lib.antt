@@ -1,2 +1,2 @@
--- The laws of the crate's loops, by which `idle_threads`, `nodes_valid` and `threads_valid` are proved.
+-- The laws by which `fresh_state` and `table_valid` are proved.
 pub mod Laws

@@ -7,12 +7,11 @@ use Rattle.std.proofs.lemmas.List.{length-replicate}
 use Rattle.number.specs.OneResult.{only}
 use Rattle.number.specs.Refused.{bad_size, done}
 use Rattle.number.specs.Sizes.{most_nodes, most_threads}
-use Rattle.lock.specs.Fresh.{fresh, fresh_state, idle, idle_to, in_size, opened}
+use Rattle.lock.specs.Fresh.{Opened, fresh, fresh_state, idle, idle_to, in_size, opened}
 use Rattle.lock.specs.Judged.{size_rule}
 use Rattle.lock.specs.Laws.{nth_after_front, nth_front}
 use Rattle.lock.specs.State.{table_size, zero_node, zero_state, zero_thread}
 use Rattle.lock.specs.Valid.{Between, Valid, valid}
-use Rattle.lock.specs.declared.Opened.{Opened}
 use Rattle.lock.specs.declared.State.{State}
 
 -- T and K of 1 to 32 give success and the fresh state.

@@ -1,7 +1,7 @@
 -- Document 01, "Saved state": "A state that is not in bytes is held to the same ranges, with 0 in every place past T or K; otherwise it gives 1."
 -- First the rule as facts, to be read; then the same rule as the test that the code makes. Judged.antt proves that the two agree.
 -- Assumes nothing.
-use Rattle.std.specs.Prelude.{Bool, true, ◌&&◌, ◌||◌, List, [], ◌∷◌, ◌≡◌, ℕ, zero, suc, ◌≤◌, ◌<◌, ◌^◌, eqb, leb, ltb, length}
+use Rattle.std.specs.Prelude.{Bool, true, ◌&&◌, List, [], ◌∷◌, ◌≡◌, ℕ, zero, suc, ◌≤◌, ◌<◌, ◌^◌, eqb, leb, length}
 use Rattle.number.specs.Sizes.{first_line, last_line, last_place, most_entries, most_nodes, most_threads}
 use Rattle.number.specs.Tests.{all_hold}
 use Rattle.number.specs.declared.NodeNo.{NodeNo}
@@ -124,10 +124,6 @@ thread_zeros v =
 
 abbrev pub thread_is_zero : Thread → Bool
 thread_is_zero v = all_hold (thread_zeros v)
-
--- the first test below n, and the second from n on
-abbrev pub pick_up_to : ℕ → ℕ → Bool → Bool → Bool
-pick_up_to i n within past = ltb i n && within || leb n i && past
 
 -- `within` holds of the first n elements, and `past` of the others
 abbrev pub up_to : {A : Type 0} → (A → Bool) → (A → Bool) → ℕ → List A → Bool

@@ -2,27 +2,27 @@
 // of is `pub`, for the crate that writes one in bytes (`saved`). Rests on `number` and `word`.
 #![tactic(auto)]
 
-ghost use Rattle.std.specs.Prelude.{◌≤◌, ◌≡◌};
-ghost use Rattle.number.specs.Sizes.{most_threads};
-ghost use Rattle.lock.specs.Fresh.{fresh as fresh_of, fresh_shared, idle, idle_to, in_size};
+ghost use Rattle.std.specs.Prelude.{Bool, true, ◌≡◌, ℕ, ◌≤◌, length};
+ghost use Rattle.std.specs.List.{list_all};
+ghost use Rattle.lock.specs.Fresh.{fresh as fresh_of, fresh_shared, fresh_state, idle, in_size, opened_of};
 ghost use Rattle.lock.specs.State.{◌⟨line≔◌⟩, zero_node, zero_state, zero_thread};
-ghost use Rattle.lock.specs.Valid.{node_in_range, node_is_zero, nodes_valid, pick_up_to, shared_valid, thread_in_range, thread_is_zero, threads_valid};
-ghost use Rattle.lock.specs.Valid.{valid as valid_of};
+ghost use Rattle.lock.specs.Valid.{node_in_range, node_is_zero, nodes_valid, shared_valid, thread_in_range, thread_is_zero};
+ghost use Rattle.lock.specs.Valid.{threads_valid, up_to, valid as valid_of};
 
 use number::{
-    BAD_SIZE, DONE, FIRST_LINE, LAST_LINE, LAST_PLACE, MOST_ENTRIES, MOST_NODES, MOST_THREADS,
-    NodeNo, Place,
+    FIRST_LINE, LAST_LINE, LAST_PLACE, MOST_ENTRIES, MOST_NODES, MOST_THREADS, NodeNo, Place,
+    Refusal,
 };
 
 // A queue node.
-#[derive(Clone, Copy)]
+#[derive(Clone, Copy, Debug, PartialEq, Eq)]
 pub struct Node {
     pub next: NodeNo,
     pub locked: u8,
 }
 
 // A thread: the line that it is to execute next, and its own variables.
-#[derive(Clone, Copy)]
+#[derive(Clone, Copy, Debug, PartialEq, Eq)]
 pub struct Thread {
     pub line: u8,
     pub my: NodeNo,
@@ -55,20 +55,13 @@ pub struct State {
     pub thread: [Thread; MOST_THREADS as usize],
 }
 
-// What a call that makes a state gives: 0 and the state, or the refusal and a state with 0 everywhere.
-#[derive(Clone, Copy)]
-pub struct Opened {
-    pub number: u8,
-    pub state: State,
-}
-
 // ---- zeros
 
 pub fn zero_node() -> Node
     ensures { result ≡ zero_node }
 {
     Node {
-        next: NodeNo(0),
+        next: NodeNo::BOTTOM,
         locked: 0,
     }
 }
@@ -79,10 +72,10 @@ fn thread_at_line(line: u8) -> Thread
 {
     Thread {
         line,
-        my: NodeNo(0),
-        prev: NodeNo(0),
-        succ: NodeNo(0),
-        nxmy: NodeNo(0),
+        my: NodeNo::BOTTOM,
+        prev: NodeNo::BOTTOM,
+        succ: NodeNo::BOTTOM,
+        nxmy: NodeNo::BOTTOM,
         slot: Place(0),
     }
 }
@@ -96,22 +89,20 @@ fn zero_thread() -> Thread
 pub fn zero_state() -> State
     ensures { result ≡ zero_state }
 {
-    let nodes = [zero_node(); MOST_NODES as usize];
-    let threads = [zero_thread(); MOST_THREADS as usize];
     State {
         shared: Shared {
             threads: 0,
             nodes: 0,
             flag: 0,
-            tail: NodeNo(0),
-            mess: NodeNo(0),
+            tail: NodeNo::BOTTOM,
+            mess: NodeNo::BOTTOM,
             low: Place(0),
             high: Place(0),
             entered: 0,
             used: 0,
         },
-        node: nodes,
-        thread: threads,
+        node: [zero_node(); MOST_NODES as usize],
+        thread: [zero_thread(); MOST_THREADS as usize],
     }
 }
 
@@ -131,22 +122,6 @@ pub fn idle_thread() -> Thread
     thread_at_line(FIRST_LINE)
 }
 
-// The first `threads` threads at line 11, and 0 in every other place.
-fn idle_threads(threads: u8) -> [Thread; MOST_THREADS as usize]
-    requires { threads ≤ most_threads }
-    ensures { result ≡ idle_to threads }
-{
-    let idle = idle_thread();
-    let mut all = [zero_thread(); MOST_THREADS as usize];
-    let n = threads as usize;
-    let mut i = 0;
-    while i < n {
-        all[i] = idle;
-        i += 1;
-    }
-    all
-}
-
 // The shared numbers of a fresh state.
 pub fn fresh_shared(threads: u8, nodes: u8) -> Shared
     ensures { result ≡ fresh_shared threads nodes }
@@ -155,8 +130,8 @@ pub fn fresh_shared(threads: u8, nodes: u8) -> Shared
         threads,
         nodes,
         flag: 1,
-        tail: NodeNo(0),
-        mess: NodeNo(0),
+        tail: NodeNo::BOTTOM,
+        mess: NodeNo::BOTTOM,
         low: Place(1),
         high: Place(1),
         entered: 0,
@@ -164,107 +139,108 @@ pub fn fresh_shared(threads: u8, nodes: u8) -> Shared
     }
 }
 
-pub fn fresh(threads: u8, nodes: u8) -> Opened
-    ensures { result ≡ fresh_of threads nodes }
+// The first `threads` threads are at line 11, and 0 is in every other place.
+fn fresh_state(threads: u8, nodes: u8) -> State
+    requires { in_size threads nodes ≡ true }
+    ensures { result ≡ fresh_state threads nodes }
+{
+    let mut thread = [zero_thread(); MOST_THREADS as usize];
+    let idle = idle_thread();
+    for i in 0..threads as usize {
+        thread[i] = idle;
+    }
+    State {
+        shared: fresh_shared(threads, nodes),
+        node: [zero_node(); MOST_NODES as usize],
+        thread,
+    }
+}
+
+#[tactic(auto, unfolding(crate::specs::Fresh::fresh))]
+pub fn fresh(threads: u8, nodes: u8) -> Result<State, Refusal>
+    ensures { opened_of result ≡ fresh_of threads nodes }
 {
     if in_size(threads, nodes) {
-        let shared = fresh_shared(threads, nodes);
-        let node = [zero_node(); MOST_NODES as usize];
-        let thread = idle_threads(threads);
-        let state = State {
-            shared,
-            node,
-            thread,
-        };
-        return Opened {
-            number: DONE,
-            state,
-        };
-    }
-    let state = zero_state();
-    Opened {
-        number: BAD_SIZE,
-        state,
+        Ok(fresh_state(threads, nodes))
+    } else {
+        Err(Refusal::BadSize)
     }
 }
 
 // ---- the rule of a state that is not in bytes
 
-// Next is 0 to K, and locked is 0 or 1.
-pub fn node_in_range(nodes: u8, v: Node) -> bool
-    ensures { result ≡ node_in_range nodes v }
-{
-    (v.next.0 <= nodes) & (v.locked <= 1)
+// What the rule asks of an entry of a table, a node or a thread: within T or K its numbers are in their ranges, and past it each is 0.
+pub trait Ranged: Copy {
+    ghost in_range_of: { ℕ → Self → Bool };
+
+    ghost is_zero_of: { Self → Bool };
+
+    fn in_range(self, nodes: u8) -> bool
+        ensures { result ≡ in_range_of nodes self };
+
+    fn is_zero(self) -> bool
+        ensures { result ≡ is_zero_of self };
 }
 
-fn node_is_zero(v: Node) -> bool
-    ensures { result ≡ node_is_zero v }
-{
-    (v.next.0 == 0) & (v.locked == 0)
+// Next is 0 to K, and locked is 0 or 1.
+impl Ranged for Node {
+    ghost in_range_of = { node_in_range };
+
+    ghost is_zero_of = { node_is_zero };
+
+    fn in_range(self, nodes: u8) -> bool {
+        (self.next.0 <= nodes) & (self.locked <= 1)
+    }
+
+    fn is_zero(self) -> bool {
+        self == zero_node()
+    }
 }
 
 // The line is 11 to 29, the nodes that the thread names are 0 to K, and its slot is at most 1,000,000.
-pub fn thread_in_range(nodes: u8, v: Thread) -> bool
-    ensures { result ≡ thread_in_range nodes v }
-{
-    (FIRST_LINE <= v.line)
-        & (v.line <= LAST_LINE)
-        & (v.my.0 <= nodes)
-        & (v.prev.0 <= nodes)
-        & (v.succ.0 <= nodes)
-        & (v.nxmy.0 <= nodes)
-        & (v.slot.0 <= MOST_ENTRIES)
-}
+impl Ranged for Thread {
+    ghost in_range_of = { thread_in_range };
 
-fn thread_is_zero(v: Thread) -> bool
-    ensures { result ≡ thread_is_zero v }
-{
-    (v.line == 0)
-        & (v.my.0 == 0)
-        & (v.prev.0 == 0)
-        & (v.succ.0 == 0)
-        & (v.nxmy.0 == 0)
-        & (v.slot.0 == 0)
-}
+    ghost is_zero_of = { thread_is_zero };
 
-// The first test below n, and the second from n on.
-fn pick_up_to(i: usize, n: u8, within: bool, past: bool) -> bool
-    ensures { result ≡ pick_up_to i n within past }
-{
-    let wide = n as usize;
-    ((i < wide) & within) | ((wide <= i) & past)
-}
-
-fn nodes_valid(s: State) -> bool
-    ensures { result ≡ nodes_valid s.shared.nodes s.node }
-{
-    let nodes = s.shared.nodes;
-    let mut ok = true;
-    let mut i = MOST_NODES as usize;
-    while 0 < i {
-        i -= 1;
-        let v = s.node[i];
-        ok = pick_up_to(i, nodes, node_in_range(nodes, v), node_is_zero(v)) & ok;
+    fn in_range(self, nodes: u8) -> bool {
+        (FIRST_LINE <= self.line)
+            & (self.line <= LAST_LINE)
+            & (self.my.0 <= nodes)
+            & (self.prev.0 <= nodes)
+            & (self.succ.0 <= nodes)
+            & (self.nxmy.0 <= nodes)
+            & (self.slot.0 <= MOST_ENTRIES)
     }
-    ok
+
+    fn is_zero(self) -> bool {
+        self == zero_thread()
+    }
 }
 
-fn threads_valid(s: State) -> bool
-    ensures { result ≡ threads_valid s.shared.nodes s.shared.threads s.thread }
+fn all_in_range<E: Ranged>(table: &[E], nodes: u8) -> bool
+    ensures { result ≡ list_all (E.in_range_of nodes) table.now }
 {
-    let nodes = s.shared.nodes;
-    let threads = s.shared.threads;
-    let mut ok = true;
-    let mut i = MOST_THREADS as usize;
-    while 0 < i {
-        i -= 1;
-        let v = s.thread[i];
-        ok = pick_up_to(i, threads, thread_in_range(nodes, v), thread_is_zero(v)) & ok;
-    }
-    ok
+    table.iter().all(|entry| entry.in_range(nodes))
+}
+
+fn all_zero<E: Ranged>(table: &[E]) -> bool
+    ensures { result ≡ list_all E.is_zero_of table.now }
+{
+    table.iter().all(|entry| entry.is_zero())
+}
+
+// The first `used` entries are in range, and the others are 0.
+fn table_valid<E: Ranged>(table: &[E], used: u8, nodes: u8) -> bool
+    requires { used ≤ length table.now }
+    ensures { result ≡ up_to (E.in_range_of nodes) E.is_zero_of used table.now }
+{
+    let (within, past) = table.split_at(used as usize);
+    all_in_range(within, nodes) && all_zero(past)
 }
 
 // The ranges of the shared numbers, in the order of a saved state.
+#[tactic(auto, unfolding(crate::specs::Valid::shared_valid))]
 pub fn shared_valid(sh: Shared) -> bool
     ensures { result ≡ shared_valid sh }
 {
@@ -281,9 +257,12 @@ pub fn shared_valid(sh: Shared) -> bool
 }
 
 // The state is in the ranges of document 01, with 0 in every place past T or K.
+#[tactic(auto, unfolding(crate::specs::Valid::valid, crate::specs::Valid::nodes_valid, crate::specs::Valid::threads_valid,))]
 pub fn valid(s: State) -> bool
     ensures { result ≡ valid_of s }
 {
     let sh = s.shared;
-    shared_valid(sh) & nodes_valid(s) & threads_valid(s)
+    shared_valid(sh)
+        && table_valid(&s.node, sh.nodes, sh.nodes)
+        && table_valid(&s.thread, sh.threads, sh.nodes)
 }

@@ -6,7 +6,7 @@ use Rattle.lock.specs.Fresh.{opened}
 use Rattle.lock.specs.State.{table_size, zero_node, zero_state, zero_thread}
 use Rattle.lock.specs.Valid.{NodeRange, SharedRange, ThreadRange, Valid, node_in_range, shared_valid, thread_in_range, valid}
 use Rattle.lock.specs.declared.Node.{Node}
-use Rattle.lock.specs.declared.Opened.{Opened}
+use Rattle.lock.specs.Fresh.{Opened}
 use Rattle.lock.specs.declared.Shared.{Shared}
 use Rattle.lock.specs.declared.State.{State}
 use Rattle.lock.specs.declared.Thread.{Thread}

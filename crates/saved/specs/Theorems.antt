@@ -4,7 +4,7 @@ use Rattle.std.proofs.Common.{ap, sym, ◌∙◌, arith}
 use Rattle.lock.specs.Fresh.{opened}
 use Rattle.lock.specs.State.{zero_state}
 use Rattle.lock.specs.Valid.{Sized, Valid}
-use Rattle.lock.specs.declared.Opened.{Opened}
+use Rattle.lock.specs.Fresh.{Opened}
 use Rattle.lock.specs.declared.State.{State}
 use Rattle.number.specs.First.{First}
 use Rattle.number.specs.OneResult.{only}

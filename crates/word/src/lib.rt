@@ -3,45 +3,40 @@
 #![tactic(auto)]
 
 ghost use Rattle.std.specs.Prelude.{◌≡◌};
-ghost use Rattle.word.specs.Word.{alone_in, how_many, in_use, none_from, put_in, take_out};
+ghost use Rattle.word.specs.Word.{alone_in, has_bit, how_many, in_use, none_from, put_in, take_out};
 
 use number::{MOST_NODES, NodeNo};
 
+// Nodes 1 to 32 have a bit.
+fn has_bit(k: NodeNo) -> bool
+    ensures { result ≡ has_bit k }
+{
+    (1 <= k.0) & (k.0 <= MOST_NODES)
+}
+
 // The word in which node k alone is in use.
+#[tactic(auto, unfolding(crate::specs::Word::alone_in))]
 fn alone(k: NodeNo) -> u32
     ensures { result ≡ alone_in k }
 {
-    let i = k.0;
-    if i < 1 {
-        return 0;
-    }
-    if MOST_NODES < i {
-        return 0;
-    }
-    let j = (i - 1) as u32;
-    1 << j
+    if has_bit(k) { 1 << (k.0 - 1) as u32 } else { 0 }
 }
 
+#[tactic(auto, unfolding(crate::specs::Word::in_use))]
 pub fn in_use(w: u32, k: NodeNo) -> bool
     ensures { result ≡ in_use w k }
 {
-    let i = k.0;
-    if i < 1 {
-        return false;
-    }
-    if MOST_NODES < i {
-        return false;
-    }
-    let j = (i - 1) as u32;
-    (w >> j) % 2 == 1
+    has_bit(k) && (w >> (k.0 - 1) as u32) % 2 == 1
 }
 
+#[tactic(auto, unfolding(crate::specs::Word::put_in))]
 pub fn put_in(w: u32, k: NodeNo) -> u32
     ensures { result ≡ put_in w k }
 {
     w | alone(k)
 }
 
+#[tactic(auto, unfolding(crate::specs::Word::take_out))]
 pub fn take_out(w: u32, k: NodeNo) -> u32
     ensures { result ≡ take_out w k }
 {
@@ -49,18 +44,16 @@ pub fn take_out(w: u32, k: NodeNo) -> u32
 }
 
 // How many nodes are in use: the number of ones.
+#[tactic(auto, using(crate::proofs::Laws::ones_how_many))]
 pub fn how_many(w: u32) -> u32
     ensures { result ≡ how_many w }
 {
-    u32::count_ones(w)
+    w.count_ones()
 }
 
 // No bit of w is set from bit `nodes` up. (A word has no bit from 32 up, so a larger number is met by every word.)
 pub fn none_from(w: u32, nodes: u8) -> bool
     ensures { result ≡ none_from w nodes }
 {
-    if MOST_NODES < nodes {
-        return true;
-    }
-    ((w as u64) >> (nodes as u64)) == 0
+    MOST_NODES < nodes || (w as u64) >> (nodes as u64) == 0
 }

@@ -7,7 +7,7 @@ use Rattle.std.proofs.Math.Decide.{ℕ_discrete}
 use Rattle.std.proofs.lemmas.List.{length-replicate}
 use Rattle.lock.specs.State.{table_size, zero_node, zero_state, zero_thread}
 use Rattle.lock.specs.Valid.{Sized, Valid}
-use Rattle.lock.specs.declared.Opened.{Opened}
+use Rattle.lock.specs.Fresh.{Opened}
 use Rattle.number.specs.First.{Condition, First, ◌given-when◌}
 use Rattle.number.specs.Refused.{bad_state, done}
 use Rattle.saved.specs.Saved.{SavedFile, read}

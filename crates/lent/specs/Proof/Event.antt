@@ -5,7 +5,7 @@ use Rattle.std.proofs.lemmas.Bool.{false≢true}
 use Rattle.std.proofs.Common.{ap, sym, ◌∙◌, arith}
 use Rattle.std.proofs.Math.Decide.{ℕ_discrete}
 use Rattle.event.specs.Event.{Advanced}
-use Rattle.lock.specs.declared.Opened.{Opened}
+use Rattle.lock.specs.Fresh.{Opened}
 use Rattle.lock.specs.declared.State.{State}
 use Rattle.machine.specs.Step.{advance, step}
 use Rattle.machine.specs.Theorems.{refused_unchanged}

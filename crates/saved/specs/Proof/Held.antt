@@ -4,7 +4,7 @@ use Rattle.std.specs.Prelude.{false, true, List, ◌≡◌, ℕ}
 use Rattle.std.proofs.Common.{ap}
 use Rattle.lock.specs.Judged.{rule_valid}
 use Rattle.lock.specs.Valid.{Valid, shared_valid, valid}
-use Rattle.lock.specs.declared.Opened.{Opened}
+use Rattle.lock.specs.Fresh.{Opened}
 use Rattle.lock.specs.declared.State.{State}
 use Rattle.saved.specs.Proof.Read.{good_read}
 use Rattle.saved.specs.Proof.ReadSave.{good_bytes, held_bytes}

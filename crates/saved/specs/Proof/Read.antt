@@ -3,7 +3,7 @@ use Rattle.std.specs.Prelude.{Bool, cond, false, true, List, ◌≢◌, ◌≡�
 use Rattle.std.proofs.Common.{arith}
 use Rattle.lock.specs.Fresh.{opened}
 use Rattle.lock.specs.State.{zero_state}
-use Rattle.lock.specs.declared.Opened.{Opened}
+use Rattle.lock.specs.Fresh.{Opened}
 use Rattle.number.specs.Refused.{bad_state, done}
 use Rattle.saved.specs.Saved.{read, saved_good, state_in}
 

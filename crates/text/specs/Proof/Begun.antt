@@ -10,7 +10,7 @@ use Rattle.lock.specs.Fresh.{fresh_state, in_size}
 use Rattle.lock.specs.Judged.{rule_size, rule_valid}
 use Rattle.lock.specs.Theorems.{fresh_accepted, fresh_valid}
 use Rattle.lock.specs.Valid.{Valid}
-use Rattle.lock.specs.declared.Opened.{Opened}
+use Rattle.lock.specs.Fresh.{Opened}
 use Rattle.lock.specs.declared.State.{State}
 use Rattle.machine.specs.Step.{advance}
 use Rattle.rows.specs.Rows.{over}
