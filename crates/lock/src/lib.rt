@@ -257,7 +257,7 @@ pub fn shared_valid(sh: Shared) -> bool
 }
 
 // The state is in the ranges of document 01, with 0 in every place past T or K.
-#[tactic(auto, unfolding(crate::specs::Valid::valid, crate::specs::Valid::nodes_valid, crate::specs::Valid::threads_valid,))]
+#[tactic(auto, unfolding(crate::specs::Valid::valid, crate::specs::Valid::nodes_valid, crate::specs::Valid::threads_valid))]
 pub fn valid(s: State) -> bool
     ensures { result ≡ valid_of s }
 {
