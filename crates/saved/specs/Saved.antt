@@ -25,6 +25,10 @@ four_bytes n = n % 256 ∷ n / 256 % 256 ∷ n / 65_536 % 256 ∷ n / 16_777_216
 abbrev pub four_at : List ℕ → ℕ → ℕ
 four_at b at = get_or b at 0 + 256 * get_or b (at + 1) 0 + 65_536 * get_or b (at + 2) 0 + 16_777_216 * get_or b (at + 3) 0
 
+-- these four bytes
+abbrev pub four_from : List ℕ → ℕ → List ℕ
+four_from b at = get_or b at 0 ∷ get_or b (at + 1) 0 ∷ get_or b (at + 2) 0 ∷ get_or b (at + 3) 0 ∷ []
+
 -- ---- "`LH`, T, K, flag, tail, mess, low (4), high (4), entered (4), nodes in use (4): 23 bytes."
 
 abbrev pub header_width : ℕ

@@ -14,7 +14,7 @@ ghost use Rattle.lock.specs.Valid.{valid};
 ghost use Rattle.number.specs.Sizes.{most_nodes, most_threads};
 ghost use Rattle.rows.specs.Rows.{all_good, good as good_record, letter_l, marked as marked_by, over};
 ghost use Rattle.saved.specs.Inner.{LaidIn, Room, with_nodes, with_threads};
-ghost use Rattle.saved.specs.Saved.{bytes_of, four_at, four_bytes, header_bytes, header_in, header_width, node_bytes, node_in};
+ghost use Rattle.saved.specs.Saved.{bytes_of, four_at, header_bytes, header_in, header_width, node_bytes, node_in};
 ghost use Rattle.saved.specs.Saved.{node_record, node_width, nodes_bytes, read as read_of, save_number, saved_good, saved_over};
 ghost use Rattle.saved.specs.Saved.{size as size_for, state_in, thread_bytes, thread_in, thread_record, thread_width, threads_bytes};
 ghost use Rattle.saved.specs.Saved.{threads_place};
@@ -58,18 +58,12 @@ fn rest(b: &[u8], at: usize) -> &[u8]
 
 // ---- what the record at the start of a slice says
 
-fn wide(x: u8) -> u32
-    ensures { (result ≡ x) × (result < 256) }
-{
-    x as u32
-}
-
 // The number of four bytes, the lowest first, from a place on.
 pub fn four_at(b: &[u8], at: usize) -> u32
     requires { at + 4 ≤ length b.now }
     ensures { result ≡ four_at b.now at }
 {
-    wide(b[at]) + 256 * wide(b[at + 1]) + 65_536 * wide(b[at + 2]) + 16_777_216 * wide(b[at + 3])
+    u32::from_le_bytes([b[at], b[at + 1], b[at + 2], b[at + 3]])
 }
 
 fn header_in(b: &[u8]) -> Shared
@@ -261,25 +255,13 @@ pub fn read(bytes: &[u8]) -> Opened
 
 // ---- the bytes of a record
 
-// A number in four bytes, the lowest first.
-fn four_bytes(n: u32) -> [u8; 4]
-    ensures { result ≡ four_bytes n }
-{
-    [
-        (n % 256) as u8,
-        (n / 256 % 256) as u8,
-        (n / 65_536 % 256) as u8,
-        (n / 16_777_216 % 256) as u8,
-    ]
-}
-
 fn header_bytes(sh: Shared) -> [u8; HEADER_WIDTH]
     ensures { result ≡ header_bytes sh }
 {
-    let low = four_bytes(sh.low.0);
-    let high = four_bytes(sh.high.0);
-    let entered = four_bytes(sh.entered);
-    let used = four_bytes(sh.used);
+    let low = sh.low.0.to_le_bytes();
+    let high = sh.high.0.to_le_bytes();
+    let entered = sh.entered.to_le_bytes();
+    let used = sh.used.to_le_bytes();
     [
         b'L', b'H', sh.threads, sh.nodes, sh.flag, sh.tail.0, sh.mess.0, low[0], low[1], low[2],
         low[3], high[0], high[1], high[2], high[3], entered[0], entered[1], entered[2], entered[3],
@@ -296,7 +278,7 @@ fn node_bytes(v: Node) -> [u8; NODE_WIDTH]
 fn thread_bytes(v: Thread) -> [u8; THREAD_WIDTH]
     ensures { result ≡ thread_bytes v }
 {
-    let slot = four_bytes(v.slot.0);
+    let slot = v.slot.0.to_le_bytes();
     [
         b'L', b'T', v.line, v.my.0, v.prev.0, v.succ.0, v.nxmy.0, slot[0], slot[1], slot[2],
         slot[3],

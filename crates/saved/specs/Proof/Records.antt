@@ -1,42 +1,37 @@
 -- The three kinds of record are lawful: reading and writing one record undo each other. A record is a list of single bytes and of numbers of four
 -- bytes, so what is left to show is that four bytes and their number undo each other. Assumes nothing.
-use Rattle.std.specs.Prelude.{true, List, [], ◌∷◌, ◌++◌, ◌≡◌, refl, ℕ, ◌+◌, ◌*◌, ◌/◌, ◌%◌, ◌^◌, ◌≤◌, ◌<◌, get_or, length, take}
-use Rattle.std.proofs.Common.{◌∙◌, mod-eq_of_lt, arith, pow_mono}
-use Rattle.std.proofs.Math.Nat.{div-div-eq-div-mul}
+use Rattle.std.specs.Prelude.{true, List, ◌++◌, ◌≡◌, refl, ℕ, zero, suc, ◌+◌, ◌^◌, ◌≤◌, ◌<◌, get_or, length, take}
+use Rattle.std.proofs.Common.{◌∙◌, arith, pow_mono, sym}
+use Rattle.std.proofs.lemmas.Nat.{from_le_bytes-to_le_bytes_4, le_bytes_4}
+use Rattle.std.specs.Int.{from_le_bytes, w32}
 use Rattle.lock.specs.Judged.{shared_rule, thread_rule}
 use Rattle.lock.specs.Valid.{SharedRange, ThreadRange, shared_valid}
 use Rattle.lock.specs.declared.Shared.{Shared}
 use Rattle.rows.specs.Round.{begun, listed, listed_front}
 use Rattle.rows.specs.Rows.{Bytes, Lawful, letter_h, letter_l, letter_n, letter_t, marked}
-use Rattle.saved.specs.Saved.{four_at, four_bytes, header, header_bytes, header_in, header_width}
+use Rattle.saved.specs.Saved.{four_at, four_bytes, four_from, header, header_bytes, header_in, header_width}
 use Rattle.saved.specs.Saved.{node_record, node_width, thread_record, thread_width}
 
--- ---- numbers of four bytes
+-- ---- numbers of four bytes: what the library says of four bytes, the lowest first
+
+-- The number whose four bytes stand in b from a place on is the library's.
+pub four_lowest_first : (b : List ℕ) (at : ℕ) → from_le_bytes w32 (four_from b at) ≡ four_at b at
+four_lowest_first b at = omega arith
 
 -- The number of its four bytes is the number.
 four_read : (n : ℕ) → n < 2 ^ 32 → four_at (four_bytes n) 0 ≡ n
-four_read n h =
-    let top : n / 16_777_216 < 256 = omega arith in
-    omega (arith, div-div-eq-div-mul n 256 256, div-div-eq-div-mul n 65_536 256, mod-eq_of_lt top)
+four_read n h = sym (four_lowest_first (four_bytes n) 0) ∙ from_le_bytes-to_le_bytes_4 n h
 
--- Four bytes are those of their number ..
-bytes_written : (i j k l : ℕ) → i < 256 → j < 256 → k < 256 → l < 256
-    → four_bytes (i + 256 * j + 65_536 * k + 16_777_216 * l) ≡ i ∷ j ∷ k ∷ l ∷ []
-bytes_written i j k l a b c d =
-    let n : ℕ = i + 256 * j + 65_536 * k + 16_777_216 * l in
-    let q₁ : n / 256 ≡ j + 256 * k + 65_536 * l = omega arith in
-    let q₂ : n / 65_536 ≡ k + 256 * l = omega (arith, div-div-eq-div-mul n 256 256) in
-    let q₃ : n / 16_777_216 ≡ l = omega (arith, div-div-eq-div-mul n 65_536 256) in
-    let e₀ : n % 256 ≡ i = omega arith in
-    let e₁ : n / 256 % 256 ≡ j = rw q₁ (omega arith) in
-    let e₂ : n / 65_536 % 256 ≡ k = rw q₂ (omega arith) in
-    let e₃ : n / 16_777_216 % 256 ≡ l = rw q₃ (mod-eq_of_lt d) in
-    rw (e₀, e₁, e₂, e₃)
-
--- .. where they stand in b.
-four_written : (b : List ℕ) (at : ℕ) → Bytes b
-    → four_bytes (four_at b at) ≡ get_or b at 0 ∷ get_or b (at + 1) 0 ∷ get_or b (at + 2) 0 ∷ get_or b (at + 3) 0 ∷ []
-four_written b at bytes = bytes_written _ _ _ _ (bytes at) (bytes (at + 1)) (bytes (at + 2)) (bytes (at + 3))
+-- Four bytes are those of their number, where they stand in b.
+four_written : (b : List ℕ) (at : ℕ) → Bytes b → four_bytes (four_at b at) ≡ four_from b at
+four_written b at bytes = le_bytes_4 (four_from b at) (four_at b at) refl each (sym (four_lowest_first b at))
+  where
+    each : (i : ℕ) → get_or (four_from b at) i 0 < 256
+    each zero = bytes at
+    each (suc zero) = bytes (at + 1)
+    each (suc (suc zero)) = bytes (at + 2)
+    each (suc (suc (suc zero))) = bytes (at + 3)
+    each (suc (suc (suc (suc i)))) = omega arith
 
 -- ---- the kinds. What is read from behind a mark is written again byte by byte: the mark, single bytes, numbers of four bytes.
 
