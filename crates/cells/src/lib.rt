@@ -27,10 +27,7 @@ fn put_four(b: &mut [u8], at: usize, n: u32)
     requires { at + 4 ≤ length b.old }
     ensures { b.new ≡ sets b.old at (four_bytes n) }
 {
-    b[at] = (n % 256) as u8;
-    b[at + 1] = (n / 256 % 256) as u8;
-    b[at + 2] = (n / 65_536 % 256) as u8;
-    b[at + 3] = (n / 16_777_216 % 256) as u8;
+    rows::put(b, at, &n.to_le_bytes());
 }
 
 // ---- where the record of a node, and that of a thread, begins
