@@ -1,10 +1,9 @@
 -- Bytes that hold a state: what stands in its header, in the record of a node and in that of a thread, and what a store there leaves. One law for each
 -- inner function. Assumes nothing.
 use mathlib.Core.List.{List, [], ◌∷◌, ◌++◌, append-nil}
-use Rattle.std.specs.Prelude.{◌≡◌, ℕ, ◌+◌, ◌*◌, ◌/◌, ◌^◌, ◌≤◌, ◌<◌, get_or, length, set}
+use Rattle.std.specs.Prelude.{◌≡◌, ℕ, ◌+◌, ◌*◌, ◌^◌, ◌≤◌, ◌<◌, get_or, length, set}
 use Rattle.std.proofs.Math.Path.{ap, refl, sym}
-use Rattle.std.proofs.Common.{◌∙◌, mod-eq_of_lt, arith, length-append}
-use Rattle.std.proofs.Math.Nat.{div-div-eq-div-mul}
+use Rattle.std.proofs.Common.{◌∙◌, arith, length-append}
 use Rattle.std.proofs.Math.ListN.{get_or-append}
 use Rattle.std.proofs.lemmas.List.Edits.{sets}
 use Rattle.lock.specs.Laws.{length_set_nth}
@@ -17,7 +16,7 @@ use Rattle.number.specs.declared.NodeNo.{NodeNo}
 use Rattle.number.specs.declared.Place.{Place}
 use Rattle.number.specs.declared.ThreadNo.{ThreadNo}
 use Rattle.rows.specs.Loops.{length_laid_front}
-use Rattle.saved.specs.Proof.Records.{node_lawful, thread_lawful}
+use Rattle.saved.specs.Proof.Records.{four_read, node_lawful, thread_lawful}
 use Rattle.saved.specs.Saved.{bytes_of, four_at, four_bytes, header_bytes, header_width, node_bytes, node_record, node_width, nodes_bytes, thread_bytes, thread_record, thread_width}
 use Rattle.saved.specs.Saved.{threads_bytes, threads_place}
 use Rattle.cells.specs.Cells.{Fits, HasNode, HasThread, Held, Leaves, Shows, node_place, nodes_in, thread_place, threads_in}
@@ -99,12 +98,6 @@ module _ (b : List ℕ) (t : ThreadNo) (has : HasThread b t) where
 
 -- ---- the header
 
--- the number of its four bytes is the number
-four_read : {n : ℕ} → n < 2 ^ 32 → four_at (four_bytes n) 0 ≡ n
-four_read {n} h =
-    let top : n / 16_777_216 < 256 = omega arith in
-    omega (arith, div-div-eq-div-mul n 256 256, div-div-eq-div-mul n 65_536 256, mod-eq_of_lt top)
-
 module _ (b : List ℕ) where
   pub header_shows : (j : ℕ) → j < header_width → ShowsAs node b (get_or b j 0) (λ s. get_or (header_bytes s.shared) j 0)
   unfolding bytes_of
@@ -116,7 +109,7 @@ module _ (b : List ℕ) where
       let (low, high, entered, used) = held.fits in
       rw held.whole
       (each (λ i. four_at (bytes_of s) (7 + 4 * i) ≡ four_of i s.shared) 3 0
-      (four_read low, (four_read high, (four_read entered, four_read used))) i (omega arith) h))
+      (four_read _ low, (four_read _ high, (four_read _ entered, four_read _ used))) i (omega arith) h))
 
   -- bytes stored from p on make the header of s that of sh, which keeps T and K
   abbrev Written : State → ℕ → List ℕ → Shared → Type 0

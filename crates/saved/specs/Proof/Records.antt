@@ -15,11 +15,11 @@ use Rattle.saved.specs.Saved.{node_record, node_width, thread_record, thread_wid
 -- ---- numbers of four bytes: what the library says of four bytes, the lowest first
 
 -- The number whose four bytes stand in b from a place on is the library's.
-pub four_lowest_first : (b : List ℕ) (at : ℕ) → from_le_bytes w32 (four_from b at) ≡ four_at b at
+four_lowest_first : (b : List ℕ) (at : ℕ) → from_le_bytes w32 (four_from b at) ≡ four_at b at
 four_lowest_first b at = omega arith
 
 -- The number of its four bytes is the number.
-four_read : (n : ℕ) → n < 2 ^ 32 → four_at (four_bytes n) 0 ≡ n
+pub four_read : (n : ℕ) → n < 2 ^ 32 → four_at (four_bytes n) 0 ≡ n
 four_read n h = sym (four_lowest_first (four_bytes n) 0) ∙ from_le_bytes-to_le_bytes_4 n h
 
 -- Four bytes are those of their number, where they stand in b.
