@@ -19,7 +19,7 @@ use Rattle.machine.specs.Conditions.Follows.{my_at, prev_at, succ_at}
 use Rattle.machine.specs.Step.{advance, step, stepped}
 use Rattle.machine.specs.Theorems.{Complete, Possible, Sound, Tool}
 use Rattle.machine.proofs.Theorems.{complete}
-use Rattle.machine.specs.declared.Stepped.{Stepped}
+use Rattle.machine.specs.Stepped.{Stepped}
 use Rattle.word.specs.Word.{alone_in, in_use, put_in, take_out}
 use Rattle.cases.specs.Case.{line, low, passes}
 use Rattle.cases.specs.Cases.{alone, queued}

@@ -11,7 +11,7 @@ use Rattle.number.specs.Refused.{done}
 use Rattle.number.specs.declared.NodeNo.{NodeNo}
 use Rattle.number.specs.declared.ThreadNo.{ThreadNo}
 use Rattle.saved.specs.Saved.{bytes_of}
-use Rattle.machine.specs.declared.Stepped.{Stepped}
+use Rattle.machine.specs.Stepped.{Stepped}
 use Rattle.events.specs.Events.{after, answers, lines_done}
 use Rattle.events.specs.declared.Event.{Event}
 

@@ -13,7 +13,7 @@ use Rattle.number.specs.declared.NodeNo.{NodeNo}
 use Rattle.number.specs.declared.ThreadNo.{ThreadNo}
 use Rattle.machine.specs.Step.{step, stepped}
 use Rattle.machine.specs.Theorems.{Tool}
-use Rattle.machine.specs.declared.Stepped.{Stepped}
+use Rattle.machine.specs.Stepped.{Stepped}
 use Rattle.cases.specs.Case.{line, low, passes, prev}
 use Rattle.cases.specs.Cases.{alone, both_through14, passage, queued}
 use Rattle.events.specs.Events.{◌times◌, after, answers}

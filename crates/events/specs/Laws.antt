@@ -14,7 +14,7 @@ use Rattle.number.specs.Tests.{neither_holds}
 use Rattle.rows.specs.Rows.{over}
 use Rattle.rows.specs.Stored.{set_behind}
 use Rattle.machine.specs.Demands.{Tool}
-use Rattle.machine.specs.declared.Stepped.{Stepped}
+use Rattle.machine.specs.Stepped.{Stepped}
 use Rattle.events.specs.Proof.Answers.{count_more, on_counts, stopping_append}
 use Rattle.events.specs.Row.{executed, executes, goes_on, how_many_of, row_answers, row_end, stopping, waited, waits}
 use Rattle.events.specs.declared.Event.{Event}

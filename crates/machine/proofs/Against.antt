@@ -23,7 +23,7 @@ use Rattle.machine.specs.Proof.Exactly.{accepted_exactly, exactly_when}
 use Rattle.machine.specs.Proof.Accepts.{now_at, possible}
 use Rattle.machine.proofs.Leads.{ends, leads}
 use Rattle.machine.specs.Step.{followed, step, stepped}
-use Rattle.machine.specs.declared.Stepped.{Stepped}
+use Rattle.machine.specs.Stepped.{Stepped}
 use Rattle.word.specs.Word.{in_use}
 
 -- ---- an accepted step

@@ -12,7 +12,7 @@ use Rattle.number.specs.declared.NodeNo.{NodeNo}
 use Rattle.number.specs.declared.ThreadNo.{ThreadNo}
 use Rattle.machine.specs.Conditions.{First, Follows, conditions}
 use Rattle.machine.specs.Step.{stepped}
-use Rattle.machine.specs.declared.Stepped.{Stepped}
+use Rattle.machine.specs.Stepped.{Stepped}
 use Rattle.word.specs.Word.{in_use}
 
 -- what is offered as a step: a number and a state for every state, thread and node

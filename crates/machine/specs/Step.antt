@@ -11,7 +11,7 @@ use Rattle.number.specs.declared.NodeNo.{NodeNo}
 use Rattle.number.specs.declared.ThreadNo.{ThreadNo}
 use Rattle.machine.specs.Acts.{followed_by, moved}
 use Rattle.machine.specs.Refusals.{refusal}
-use Rattle.machine.specs.declared.Stepped.{Stepped}
+use Rattle.machine.specs.Stepped.{Stepped}
 
 -- 5: "the event's thread is not 1 to T"
 abbrev pub no_thread : ℕ → ThreadNo → Bool

@@ -15,7 +15,7 @@ use Rattle.machine.specs.Proof.Accepts
 use Rattle.machine.specs.Proof.Exactly
 use Rattle.machine.specs.Proof.Stays
 use Rattle.machine.specs.Step.{advance, step}
-use Rattle.machine.specs.declared.Stepped.{Stepped}
+use Rattle.machine.specs.Stepped.{Stepped}
 pub use Rattle.machine.specs.Demands.{Complete, Exact, Possible, Sound, Tool, Unchanged}
 
 -- The answer is the number of the first condition of document 01 that applies, and 0 exactly when none does.

@@ -1,7 +1,8 @@
 -- For each of the nineteen lines the number that stops it, or 0 and the state after the line, by what the line does (Acts, crate `machine`) and what its row of
 -- the table says; and what it is that the code does this on bytes. Assumes nothing.
-use Rattle.std.specs.Prelude.{cond, List, ◌≡◌, ℕ}
-use Rattle.cells.specs.Cells.{HasThread, Held}
+use Rattle.std.specs.Prelude.{IfOk, cond, List, ◌≡◌, ℕ}
+use Rattle.std.proofs.Common.{Result}
+use Rattle.cells.specs.Cells.{HasThread, Held, Shows}
 use Rattle.figure.specs.Figure.{◌⟪flag≔◌⟫, ◌⟪line◌≔◌⟫, ◌⟪locked◌≔◌⟫, ◌⟪tail≔◌⟫, flag, high, low, my, prev, succ, tail}
 use Rattle.lines.specs.declared.Follow.{Follow}
 use Rattle.lines.specs.declared.Row.{Row}
@@ -11,10 +12,12 @@ use Rattle.lock.specs.declared.State.{State}
 use Rattle.machine.specs.Acts.{choose, clear_next, exchange, followed_by, link_prev, lower_flag, pass_on, read_next, release, send_mess, set_locked, take_mess}
 use Rattle.machine.specs.Refusals.{follows_empty, must_stay, wait_number}
 use Rattle.machine.specs.Step.{stop_or}
-use Rattle.machine.specs.declared.Stepped.{Stepped}
+use Rattle.machine.specs.Stepped.{Stepped}
+use Rattle.number.specs.Answer.{answer_of}
 use Rattle.number.specs.Numbers.{bottom, is_bottom, same}
 use Rattle.number.specs.Refused.{done}
 use Rattle.number.specs.declared.NodeNo.{NodeNo}
+use Rattle.number.specs.declared.Refusal.{Refusal}
 use Rattle.number.specs.declared.ThreadNo.{ThreadNo}
 use Rattle.refusals.specs.Stops.{choose_stop, place_stop, stop_by}
 
@@ -95,6 +98,13 @@ module _ (row : Row) (s : State) (t : ThreadNo) (n : NodeNo) where
 -- node k unlocked, or the flag raised where there is none
 abbrev pub freed : NodeNo → State → State
 freed k s = cond (is_bottom k) (s ⟪flag≔ 1 ⟫) (s ⟪locked k ≔ 0 ⟫)
+
+-- ---- the node that a line follows
+
+-- r is, for every state that b holds, the number that stops the line by 6, 9 and 10, or the node that it follows
+pub record Followed (b : List ℕ) (row : Row) (t : ThreadNo) (n : NodeNo) (r : Result NodeNo Refusal) : Type 0 where
+  pub stop : Shows b (answer_of r) (λ s. stop_by row.0 s (follows row s t n) n done)
+  pub node : IfOk r (λ k. Shows b k (λ s. follows row s t n))
 
 -- ---- what the functions of the lines ask for
 

@@ -8,7 +8,7 @@ use Rattle.events.specs.declared.Event.{Event}
 use Rattle.lock.specs.declared.State.{State}
 use Rattle.machine.specs.Demands.{Tool}
 use Rattle.machine.specs.Step.{advance}
-use Rattle.machine.specs.declared.Stepped.{Stepped}
+use Rattle.machine.specs.Stepped.{Stepped}
 use Rattle.rows.specs.Rows.{Bytes}
 use Rattle.saved.specs.Proof.SaveRead.{save_read}
 use Rattle.saved.specs.Saved.{bytes_of, saved_good, state_in}

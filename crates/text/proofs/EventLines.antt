@@ -9,7 +9,7 @@ use Rattle.events.specs.Row.{goes_on}
 use Rattle.events.specs.declared.Event.{Event}
 use Rattle.lock.specs.declared.State.{State}
 use Rattle.machine.specs.Step.{advance}
-use Rattle.machine.specs.declared.Stepped.{Stepped}
+use Rattle.machine.specs.Stepped.{Stepped}
 use Rattle.text.specs.Inner.{line_room}
 use Rattle.text.specs.Text.{event_fields, event_line, event_lines, numbers}
 use Rattle.text.specs.Shown.{fields_from, lines_with}

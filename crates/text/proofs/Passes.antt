@@ -9,7 +9,7 @@ use Rattle.lock.specs.declared.State.{State}
 use Rattle.schedule.specs.Schedule.{events_of, good, no_event}
 use Rattle.schedule.specs.Theorems.{few_events, length_events}
 use Rattle.machine.specs.Step.{advance}
-use Rattle.machine.specs.declared.Stepped.{Stepped}
+use Rattle.machine.specs.Stepped.{Stepped}
 use Rattle.text.specs.Decimal.{letters_from}
 use Rattle.text.specs.Inner.{Held, LineFits, LinesFit, Passed, farthest, placed}
 use Rattle.text.specs.Proof.Lines.{placed_append, placed_length, placed_none}

@@ -26,7 +26,7 @@ use Rattle.run.specs.declared.Ran.{Ran}
 use Rattle.schedule.specs.Schedule.{events_in, events_of, good, no_event, start_of}
 use Rattle.schedule.specs.Theorems.{event_none, event_there, few_events, length_events}
 use Rattle.machine.specs.Step.{advance, no_thread}
-use Rattle.machine.specs.declared.Stepped.{Stepped}
+use Rattle.machine.specs.Stepped.{Stepped}
 use Rattle.text.specs.Decimal.{decimal, letters_from}
 use Rattle.text.specs.Proof.Begun.{begin_valid}
 use Rattle.text.specs.Proof.Digits.{decimal_short}

@@ -15,7 +15,7 @@ use Rattle.run.specs.Run.{ran_over}
 use Rattle.run.specs.declared.Ran.{Ran}
 use Rattle.schedule.specs.Schedule.{GoodSchedule, events_of, good, heading_of}
 use Rattle.machine.specs.Step.{advance, no_thread}
-use Rattle.machine.specs.declared.Stepped.{Stepped}
+use Rattle.machine.specs.Stepped.{Stepped}
 use Rattle.text.specs.Decimal.{decimal, letters}
 use Rattle.text.specs.declared.Written.{Written}
 

@@ -15,7 +15,7 @@ use Rattle.machine.specs.Demands.{Possible}
 use Rattle.machine.specs.Step.{step, stepped}
 use Rattle.machine.specs.Theorems.{accepted_possible, refused_unchanged}
 use Rattle.machine.proofs.Theorems.{complete, sound}
-use Rattle.machine.specs.declared.Stepped.{Stepped}
+use Rattle.machine.specs.Stepped.{Stepped}
 use Rattle.theory.specs.Demands.{done_of}
 use Rattle.theory.specs.FigureSteps.{FigureSteps, Within}
 use Rattle.theory.specs.FigureSteps.FigureSteps.{no_steps, one_step}

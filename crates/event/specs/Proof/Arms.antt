@@ -14,7 +14,7 @@ use Rattle.machine.specs.Acts.{perform}
 use Rattle.machine.proofs.Leads.{closes}
 use Rattle.machine.specs.Refusals.{refusal}
 use Rattle.machine.specs.Step.{advance_by, refusal_of, stop_or}
-use Rattle.machine.specs.declared.Stepped.{Stepped}
+use Rattle.machine.specs.Stepped.{Stepped}
 use Rattle.number.specs.Numbers.{same}
 use Rattle.number.specs.declared.NodeNo.{NodeNo}
 use Rattle.number.specs.declared.ThreadNo.{ThreadNo}

@@ -12,7 +12,7 @@ use Rattle.number.specs.declared.ThreadNo.{ThreadNo}
 use Rattle.machine.specs.Step.{advance, step, stepped}
 use Rattle.machine.specs.Theorems.{accepted_possible}
 use Rattle.machine.proofs.Theorems.{complete, sound}
-use Rattle.machine.specs.declared.Stepped.{Stepped}
+use Rattle.machine.specs.Stepped.{Stepped}
 use Rattle.events.specs.FigureRun.{FigureRun}
 use Rattle.events.specs.FigureRun.FigureRun.{executed, no_events, stopped, waited}
 use Rattle.events.specs.Proof.Answers.{on_waits, stop_not_done, wait_goes_on, wait_not_done}

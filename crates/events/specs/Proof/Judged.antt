@@ -13,7 +13,7 @@ use Rattle.number.specs.declared.ThreadNo.{ThreadNo}
 use Rattle.machine.specs.Conditions.{First, conditions, event_conditions}
 use Rattle.machine.specs.Step.{advance, step, stepped}
 use Rattle.machine.specs.Theorems.{advance_is_step, exactly_when, refused_unchanged, size_kept, valid_kept}
-use Rattle.machine.specs.declared.Stepped.{Stepped}
+use Rattle.machine.specs.Stepped.{Stepped}
 use Rattle.events.specs.Proof.Answers.{stop_not_done}
 use Rattle.events.specs.Proof.Rows.{SameRow, by_events, kept, same_row, stop_end}
 use Rattle.events.specs.Row.{goes_on, row_answers, row_end, stopping}

@@ -9,7 +9,7 @@ use Rattle.std.proofs.Math.ListN.{length}
 use Rattle.lock.specs.declared.State.{State}
 use Rattle.number.specs.Refused.{done}
 use Rattle.machine.specs.Demands.{Tool}
-use Rattle.machine.specs.declared.Stepped.{Stepped}
+use Rattle.machine.specs.Stepped.{Stepped}
 use Rattle.events.specs.Events.{after, answers}
 use Rattle.events.specs.Proof.Answers.{Counted, stop_not_done, up_to_stop_counted}
 use Rattle.events.specs.Row.{goes_on, row_answers, row_end, stopping, up_to_stop}

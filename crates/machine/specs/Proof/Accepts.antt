@@ -20,7 +20,7 @@ use Rattle.machine.specs.Proof.Answer.{Accepted, accepted, executes, unchanged}
 use Rattle.machine.specs.Proof.Exactly.{accepted_exactly}
 use Rattle.machine.specs.Proof.Kept.{after_size, after_valid}
 use Rattle.machine.specs.Step.{after, step}
-use Rattle.machine.specs.declared.Stepped.{Stepped}
+use Rattle.machine.specs.Stepped.{Stepped}
 use Rattle.word.specs.Word.{in_use}
 
 module _ (s : State) (t : ThreadNo) (n : NodeNo) (rule : Valid s) (h : (step s t n).answer ≡ done) where

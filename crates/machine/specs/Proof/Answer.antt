@@ -13,7 +13,7 @@ use Rattle.number.specs.declared.NodeNo.{NodeNo}
 use Rattle.number.specs.declared.ThreadNo.{ThreadNo}
 use Rattle.machine.specs.Refusals.{refusal, refusals}
 use Rattle.machine.specs.Step.{advance, advance_by, after, followed, no_thread, refusal_of, step, stepped}
-use Rattle.machine.specs.declared.Stepped.{Stepped}
+use Rattle.machine.specs.Stepped.{Stepped}
 
 -- ---- an event in a judged state: it is refused, or the line is executed
 module _ (l : ℕ) (s : State) (t : ThreadNo) (n : NodeNo) where

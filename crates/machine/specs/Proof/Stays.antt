@@ -24,7 +24,7 @@ use Rattle.machine.specs.Proof.Answer.{Accepted, accepted, executes, unchanged}
 use Rattle.machine.specs.Proof.Judges.{follows}
 use Rattle.machine.specs.Proof.Table.{row_agrees}
 use Rattle.machine.specs.Step.{after, followed, step}
-use Rattle.machine.specs.declared.Stepped.{Stepped}
+use Rattle.machine.specs.Stepped.{Stepped}
 
 -- ---- an act
 module _ (s : State) (t : ThreadNo) (k : NodeNo) where
