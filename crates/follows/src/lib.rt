@@ -5,113 +5,86 @@
 
 ghost use Rattle.std.specs.Prelude.{◌≢◌};
 ghost use Rattle.cells.specs.Cells.{HasNode, Laid, Leaves};
+ghost use Rattle.number.specs.Answer.{answer_of};
 ghost use Rattle.refusals.specs.Lines.{Gives, Ready, Strict, freed, locked_set, next_cleared, next_read, passed_on, prev_linked, released, waited};
 ghost use Rattle.refusals.specs.Stops.{AtNode};
 
 use lines::Row;
-use number::{DONE, NodeNo, Place, ThreadNo};
+use number::{NodeNo, Place, Refusal, ThreadNo};
 
 // 12 | next(my) := 0
-pub fn clear_next(b: &mut [u8], row: Row, t: ThreadNo, n: NodeNo) -> u8
+pub fn clear_next(b: &mut [u8], row: Row, t: ThreadNo, n: NodeNo) -> Result<(), Refusal>
     requires { Ready b.old t × Strict row.0 }
-    ensures { Gives b.old b.new result (λ s. next_cleared row s t n) }
+    ensures { Gives b.old b.new (answer_of result) (λ s. next_cleared row s t n) }
 {
-    let follow = row.0;
-    let k = refusals::followed(b, follow, t);
-    let stop = refusals::follow_stop(b, follow, k, n, DONE);
-    if stop == DONE {
-        let bottom = NodeNo(0);
-        cells::set_next(b, k, bottom);
-        cells::set_line(b, t, row.2);
-    }
-    stop
+    let k = refusals::follow(b, row, t, n)?;
+    cells::set_next(b, k, NodeNo::BOTTOM);
+    cells::set_line(b, t, row.2);
+    Ok(())
 }
 
 // 13 | locked(my) := 1
-pub fn lock_my(b: &mut [u8], row: Row, t: ThreadNo, n: NodeNo) -> u8
+pub fn lock_my(b: &mut [u8], row: Row, t: ThreadNo, n: NodeNo) -> Result<(), Refusal>
     requires { Ready b.old t × Strict row.0 }
-    ensures { Gives b.old b.new result (λ s. locked_set row s t n) }
+    ensures { Gives b.old b.new (answer_of result) (λ s. locked_set row s t n) }
 {
-    let follow = row.0;
-    let k = refusals::followed(b, follow, t);
-    let stop = refusals::follow_stop(b, follow, k, n, DONE);
-    if stop == DONE {
-        cells::set_locked(b, k, 1);
-        cells::set_line(b, t, row.2);
-    }
-    stop
+    let k = refusals::follow(b, row, t, n)?;
+    cells::set_locked(b, k, 1);
+    cells::set_line(b, t, row.2);
+    Ok(())
 }
 
 // 16 | waits until flag is 1
 // 19 | waits until locked(my) is 0
 // 23 | waits until next(my) is not 0
 // 27 | the critical section
-pub fn go_on(b: &mut [u8], row: Row, t: ThreadNo, n: NodeNo) -> u8
+#[tactic(auto, using(refusals::specs::Laws::clear, refusals::specs::Laws::unclear))]
+pub fn go_on(b: &mut [u8], row: Row, t: ThreadNo, n: NodeNo) -> Result<(), Refusal>
     requires { Ready b.old t × AtNode row.1 (Strict row.0) }
-    ensures { Gives b.old b.new result (λ s. waited row s t n) }
+    ensures { Gives b.old b.new (answer_of result) (λ s. waited row s t n) }
 {
-    let follow = row.0;
-    let wait = row.1;
-    let k = refusals::followed(b, follow, t);
-    let stop = refusals::follow_stop(b, follow, k, n, DONE);
-    if stop == DONE {
-        if refusals::must_wait(b, wait, k) {
-            return refusals::wait_number(wait);
-        }
-        cells::set_line(b, t, row.2);
-    }
-    stop
+    let k = refusals::follow(b, row, t, n)?;
+    refusals::wait_stop(b, row.1, k)?;
+    cells::set_line(b, t, row.2);
+    Ok(())
 }
 
 // 18 | next(prev) := my
-pub fn link_prev(b: &mut [u8], row: Row, t: ThreadNo, n: NodeNo) -> u8
+pub fn link_prev(b: &mut [u8], row: Row, t: ThreadNo, n: NodeNo) -> Result<(), Refusal>
     requires { Ready b.old t × Strict row.0 }
-    ensures { Gives b.old b.new result (λ s. prev_linked row s t n) }
+    ensures { Gives b.old b.new (answer_of result) (λ s. prev_linked row s t n) }
 {
-    let follow = row.0;
-    let k = refusals::followed(b, follow, t);
-    let stop = refusals::follow_stop(b, follow, k, n, DONE);
-    if stop == DONE {
-        let my = cells::my(b, t);
-        cells::set_next(b, k, my);
-        cells::set_line(b, t, row.2);
-    }
-    stop
+    let k = refusals::follow(b, row, t, n)?;
+    let my = cells::my(b, t);
+    cells::set_next(b, k, my);
+    cells::set_line(b, t, row.2);
+    Ok(())
 }
 
 // 20 and 24 | nxmy and succ := next(my)
-pub fn read_next(b: &mut [u8], row: Row, t: ThreadNo, n: NodeNo) -> u8
+pub fn read_next(b: &mut [u8], row: Row, t: ThreadNo, n: NodeNo) -> Result<(), Refusal>
     requires { Ready b.old t × Strict row.0 }
-    ensures { Gives b.old b.new result (λ s. next_read row s t n) }
+    ensures { Gives b.old b.new (answer_of result) (λ s. next_read row s t n) }
 {
-    let follow = row.0;
-    let k = refusals::followed(b, follow, t);
-    let stop = refusals::follow_stop(b, follow, k, n, DONE);
-    if stop == DONE {
-        let next = cells::next(b, k);
-        cells::set_nxmy(b, t, next);
-        cells::set_succ(b, t, next);
-        cells::set_line(b, t, row.2);
-    }
-    stop
+    let k = refusals::follow(b, row, t, n)?;
+    let next = cells::next(b, k);
+    cells::set_nxmy(b, t, next);
+    cells::set_succ(b, t, next);
+    cells::set_line(b, t, row.2);
+    Ok(())
 }
 
 // 26 | succ := 0; my is no longer in use (the number stays)
-pub fn release(b: &mut [u8], row: Row, t: ThreadNo, n: NodeNo) -> u8
+pub fn release(b: &mut [u8], row: Row, t: ThreadNo, n: NodeNo) -> Result<(), Refusal>
     requires { Ready b.old t }
-    ensures { Gives b.old b.new result (λ s. released row s t n) }
+    ensures { Gives b.old b.new (answer_of result) (λ s. released row s t n) }
 {
-    let follow = row.0;
-    let k = refusals::followed(b, follow, t);
-    let stop = refusals::follow_stop(b, follow, k, n, DONE);
-    if stop == DONE {
-        let used = word::take_out(cells::local(b), k);
-        let bottom = NodeNo(0);
-        cells::set_succ(b, t, bottom);
-        cells::set_local(b, used);
-        cells::set_line(b, t, row.2);
-    }
-    stop
+    let k = refusals::follow(b, row, t, n)?;
+    let used = word::take_out(cells::local(b), k);
+    cells::set_succ(b, t, NodeNo::BOTTOM);
+    cells::set_local(b, used);
+    cells::set_line(b, t, row.2);
+    Ok(())
 }
 
 // Node k is unlocked, or the flag is raised where there is none.
@@ -119,7 +92,7 @@ fn free(b: &mut [u8], k: NodeNo)
     requires { Laid b.old × (k.0 ≢ 0 → HasNode b.old k) }
     ensures { Leaves b.old b.new (freed k) }
 {
-    if k.0 == 0 {
+    if k.is_bottom() {
         cells::set_flag(b, 1);
     } else {
         cells::set_locked(b, k, 0);
@@ -127,19 +100,16 @@ fn free(b: &mut [u8], k: NodeNo)
 }
 
 // 29 | if succ is not 0, locked(succ) := 0, else flag := 1; low + 1
-pub fn pass_on(b: &mut [u8], row: Row, t: ThreadNo, n: NodeNo) -> u8
+#[tactic(auto, using(refusals::specs::Laws::clear, refusals::specs::Laws::unclear))]
+pub fn pass_on(b: &mut [u8], row: Row, t: ThreadNo, n: NodeNo) -> Result<(), Refusal>
     requires { Ready b.old t }
-    ensures { Gives b.old b.new result (λ s. passed_on row s t n) }
+    ensures { Gives b.old b.new (answer_of result) (λ s. passed_on row s t n) }
 {
-    let follow = row.0;
-    let k = refusals::followed(b, follow, t);
     let low = cells::low(b);
-    let stop = refusals::follow_stop(b, follow, k, n, refusals::place_stop(low));
-    if stop == DONE {
-        let behind = Place(low.0 + 1);
-        free(b, k);
-        cells::set_low(b, behind);
-        cells::set_line(b, t, row.2);
-    }
-    stop
+    let k = refusals::follow(b, row, t, n)?;
+    refusals::place_stop(low)?;
+    free(b, k);
+    cells::set_low(b, Place(low.0 + 1));
+    cells::set_line(b, t, row.2);
+    Ok(())
 }

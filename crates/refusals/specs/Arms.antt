@@ -1,13 +1,14 @@
 -- What the proofs of the acts use. An event that its number stops leaves the bytes alone, and one that goes on leaves those of the state after it; a followed
 -- node that does not stop the event has a record. Assumes nothing.
 use Rattle.std.specs.Prelude.{Bool, cond, false, not, true, List, ◌≢◌, ◌≡◌, ℕ, ◌≤◌, eqb}
-use Rattle.std.proofs.Common.{ap, subst, sym, ◌∙◌, arith, eq-eqb, ne_eqb}
+use Rattle.std.proofs.Common.{Ok, ap, subst, sym, ◌∙◌, arith, eq-eqb, ne_eqb}
 use Rattle.std.proofs.lemmas.Bool.{eqb-false}
 use Rattle.cells.specs.Cells.{HasNode, Held, Leaves}
 use Rattle.cells.specs.Proof.Laws.{nodes_same, threads_same}
 use Rattle.figure.specs.Figure.{◌⟪flag≔◌⟫, ◌⟪locked◌≔◌⟫, line}
 use Rattle.lines.specs.declared.Follow.{Follow}
 use Rattle.lines.specs.declared.Follow.TheVariants.{My, NoNode, Prev, Succ}
+use Rattle.lines.specs.declared.Row.{Row}
 use Rattle.lock.specs.State.{thread_at}
 use Rattle.lock.specs.Valid.{ThreadRange}
 use Rattle.lock.specs.declared.State.{State}
@@ -20,7 +21,7 @@ use Rattle.number.specs.Refused.{done}
 use Rattle.number.specs.declared.NodeNo.{NodeNo}
 use Rattle.number.specs.declared.ThreadNo.{ThreadNo}
 use Rattle.refusals.specs.Stops.{stop_by}
-use Rattle.refusals.specs.Lines.{Ready, Strict, freed}
+use Rattle.refusals.specs.Lines.{Followed, Ready, Strict, freed}
 
 -- ---- stop, or go on
 
@@ -65,6 +66,18 @@ module _ (b : List ℕ) (t : ThreadNo) (ready : Ready b t) where
 
   pub line_to : line s t ≤ 29
   line_to = range.line.to
+
+-- ---- the record of the node that a line was given to follow
+module _ {b : List ℕ} {row : Row} {t : ThreadNo} {n k : NodeNo} (ready : Ready b t) (followed : Followed b row t n (Ok k)) where
+  -- there is one, unless the node is 0 ..
+  pub has_some : k.0 ≢ 0 → HasNode b k
+  has_some some = has_node b t ready row.0 k (followed.node _ ready.held) (omega (arith, some))
+
+  -- .. which it is not where the line follows it whatever it is
+  pub has_followed : Strict row.0 → HasNode b k
+  has_followed strict =
+      let is = followed.node _ ready.held in
+      has_node b t ready row.0 k is (there row.0 ready.state k n strict done (rw is (sym (followed.stop _ ready.held))))
 
 -- ---- a node unlocked, or the flag raised, by whether there is a node
 pub freed_by : {b b' : List ℕ} (k : NodeNo) {x : Bool} → is_bottom k ≡ x → Leaves b b' (λ s. cond x (s ⟪flag≔ 1 ⟫) (s ⟪locked k ≔ 0 ⟫)) → Leaves b b' (freed k)

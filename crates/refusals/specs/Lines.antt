@@ -51,9 +51,13 @@ module _ (row : Row) (s : State) (t : ThreadNo) (n : NodeNo) where
   abbrev pub exchanged : Stepped
   exchanged = goes (stops (place_stop (high s))) (exchange s t follows)
 
+  -- 15 and 21, which look at node k
+  abbrev pub looked : NodeNo → Stepped
+  looked k = stop_or (stops done) s (s ⟪line t ≔ cond (is_bottom k) row.2 row.3 ⟫)
+
   -- 15
   abbrev pub prev_looked : Stepped
-  prev_looked = stop_or (stops done) s (s ⟪line t ≔ cond (is_bottom (prev s t)) row.2 row.3 ⟫)
+  prev_looked = looked (prev s t)
 
   -- 16, 19, 23 and 27
   abbrev pub waited : Stepped
@@ -73,7 +77,7 @@ module _ (row : Row) (s : State) (t : ThreadNo) (n : NodeNo) where
 
   -- 21
   abbrev pub succ_looked : Stepped
-  succ_looked = stop_or (stops done) s (s ⟪line t ≔ cond (is_bottom (succ s t)) row.2 row.3 ⟫)
+  succ_looked = looked (succ s t)
 
   -- 22
   abbrev pub tail_closed : Stepped
