@@ -9,15 +9,16 @@ ghost use Rattle.cells.specs.Cells.{Laid, Shows};
 ghost use Rattle.event.specs.Event.{Advanced};
 ghost use Rattle.figure.specs.Figure.{line as line_of};
 ghost use Rattle.machine.specs.Step.{advance_by, no_thread};
+ghost use Rattle.number.specs.Answer.{answer_of};
 ghost use Rattle.saved.specs.Saved.{saved_good};
 
-use number::{NO_SUCH_THREAD, NodeNo, ThreadNo};
+use number::{NodeNo, Refusal, ThreadNo};
 
 // The line of thread t, executed: each line asks for its row by a constant, so that the compiler has the
 // row and looks nothing up.
-fn execute(b: &mut [u8], t: ThreadNo, n: NodeNo) -> u8
+fn execute(b: &mut [u8], t: ThreadNo, n: NodeNo) -> Result<(), Refusal>
     requires { Ready b.old t }
-    ensures { Gives b.old b.new result (λ s. advance_by (line_of s t) s t n) }
+    ensures { Gives b.old b.new (answer_of result) (λ s. advance_by (line_of s t) s t n) }
 {
     let line = cells::line(b, t);
     match line {
@@ -51,14 +52,12 @@ pub fn no_thread(b: &[u8], t: ThreadNo) -> bool
     (t.0 == 0) | (cells::threads(b) < t.0)
 }
 
-// One event of a saved state that was judged before: 5 to 12, the first that applies, or 0 and the line's
-// changes, in the bytes where they stand. A refusal changes no byte.
-pub fn event(b: &mut [u8], t: ThreadNo, n: NodeNo) -> u8
+// One event of a saved state that was judged before: 5 to 12, the first that applies, or the line's changes,
+// in the bytes where they stand. A refusal changes no byte.
+pub fn event(b: &mut [u8], t: ThreadNo, n: NodeNo) -> Result<(), Refusal>
     requires { saved_good b.old ≡ true }
-    ensures { Advanced b.old b.new t n result }
+    ensures { Advanced b.old b.new t n (answer_of result) }
 {
-    if no_thread(b, t) {
-        return NO_SUCH_THREAD;
-    }
+    number::refuse(no_thread(b, t), Refusal::NoSuchThread)?;
     execute(b, t, n)
 }
