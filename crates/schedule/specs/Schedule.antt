@@ -1,6 +1,6 @@
 -- Document 01, "Schedule". First its two records, a schedule made of them, and what the bytes of one say; then the rule, as facts to be read and as the
 -- test that the code makes, which agree (Theorems, `good_schedule`); then what stands at a place. Assumes nothing.
-use Rattle.std.specs.Prelude.{Bool, cond, false, true, List, [], ◌∷◌, ◌++◌, ◌≢◌, ◌≡◌, ℕ, ◌+◌, ◌-◌, ◌*◌, ◌/◌, ◌%◌, ◌≤◌, ◌<◌, eqb, leb, ltb, drop, get_or, length}
+use Rattle.std.specs.Prelude.{Bool, cond, true, List, [], ◌∷◌, ◌++◌, ◌≢◌, ◌≡◌, ℕ, ◌+◌, ◌-◌, ◌*◌, ◌/◌, ◌%◌, ◌≤◌, ◌<◌, eqb, leb, ltb, drop, get_or, length}
 use Rattle.events.specs.Events.{event}
 use Rattle.events.specs.declared.Event.{Event}
 use Rattle.lock.specs.Fresh.{in_size}
@@ -9,7 +9,7 @@ use Rattle.number.specs.Refused.{bad_schedule, done}
 use Rattle.number.specs.Sizes.{most_nodes, most_threads}
 use Rattle.number.specs.Tests.{all_hold}
 use Rattle.rows.specs.Rows.{Kind, MarkAt, letter_e, letter_h, letter_s, all_good, good as good_record, laid, values}
-use Rattle.schedule.specs.declared.Given.{Given}
+pub use Rattle.schedule.specs.Given.{Given, no_event, one_event, stays}
 use Rattle.schedule.specs.declared.Heading.{Heading}
 
 -- ---- the records
@@ -64,10 +64,6 @@ events_in b = (length b - width) / width
 unfoldable pub events_of : List ℕ → List Event
 events_of b = values event_record (events_in b) (drop width b)
 
--- 0 everywhere
-abbrev pub no_event : Event
-no_event = event 0 0
-
 -- event i, counted from 0; zeros where there is none
 abbrev pub event_at : List ℕ → ℕ → Event
 event_at b i = get_or (events_of b) i no_event
@@ -113,14 +109,6 @@ unfoldable pub good : List ℕ → Bool
 good b = all_hold (tests b)
 
 -- ---- what stands at a place
-
--- an event, and the place to go on from
-abbrev pub one_event : Event → ℕ → Given
-one_event e next = record { number = done; found = true; event = e; place = next }
-
--- a number and no event, and the place stays
-abbrev pub stays : ℕ → ℕ → Given
-stays number place = record { number = number; found = false; event = no_event; place = place }
 
 -- the place is an event's start: behind the heading, a whole number of events on, and before the end
 abbrev pub start_tests : List ℕ → ℕ → List Bool

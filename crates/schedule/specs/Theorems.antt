@@ -12,7 +12,7 @@ use Rattle.schedule.specs.Proof.Judged
 use Rattle.schedule.specs.Proof.Round
 use Rattle.schedule.specs.Schedule.{GoodSchedule, NoPlace, Written, event_at, event_record, events_in, events_of, heading, heading_of, most_bytes, no_event}
 use Rattle.schedule.specs.Schedule.{given, good, one_event, schedule_of, sizes, start_of, stays, width}
-use Rattle.schedule.specs.declared.Given.{Given}
+use Rattle.schedule.specs.Given.{Given}
 
 -- ---- which bytes are a schedule
 

@@ -14,7 +14,7 @@ use Rattle.number.specs.Tests.{all_hold_lem, cannot_hold, each_holds}
 use Rattle.schedule.specs.Proof.Judged.{passed, passed_rule, rule_passed}
 use Rattle.schedule.specs.Schedule.{GoodSchedule, NoPlace, event_at, events_in, given, good, most_bytes, one_event}
 use Rattle.schedule.specs.Schedule.{start_of, start_tests, starts_event, stays, width}
-use Rattle.schedule.specs.declared.Given.{Given}
+use Rattle.schedule.specs.Given.{Given}
 
 -- ---- the test of a place
 

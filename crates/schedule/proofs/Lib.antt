@@ -1,0 +1,2 @@
+-- The records of a schedule as an iterator gives them.
+pub mod Chunks
