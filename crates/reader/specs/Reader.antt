@@ -1,10 +1,11 @@
 -- The schedule reader. Document 01: "A schedule reader keeps its schedule and its place, and gives one event at a time."
 -- What stands at a place of a schedule is `given` (crate `schedule`). Assumes nothing.
-use Rattle.std.specs.Prelude.{cond, List, [], ◌∷◌, ◌++◌, ℕ, zero, suc}
+use Rattle.std.specs.Prelude.{cond, List, [], ◌∷◌, ◌++◌, ℕ, zero, suc, Option, None, Some, Result, Err, Ok}
 use Rattle.std.specs.Borrow.{Bor}
 use Rattle.events.specs.declared.Event.{Event}
+use Rattle.number.specs.declared.Refusal.{Refusal}
 use Rattle.schedule.specs.Schedule.{given, start_of}
-use Rattle.schedule.specs.declared.Given.{Given}
+use Rattle.schedule.specs.Given.{Given, given_from}
 use Rattle.reader.specs.declared.Reader.{Reader}
 
 -- "keeps its schedule and its place": the caller's own bytes, where they stand, and a place in them
@@ -22,6 +23,12 @@ gives r = given r.schedule.now r.place
 -- .. and the reader after that: the very same schedule, and the place that was given
 abbrev pub after : Reader → Reader
 after r = reader_at r.schedule (gives r).place
+
+-- what is given where the code answers so and the reader then stands at a place: an event, with that place to go on from; none, at the end; or a refusal
+abbrev pub answered : ℕ → Result (Option Event) Refusal → Given
+answered place (Ok (Some e)) = given_from place (Ok (Some (e, place)))
+answered place (Ok None) = given_from place (Ok None)
+answered place (Err refusal) = given_from place (Err refusal)
 
 -- ---- asked again and again
 

@@ -9,7 +9,7 @@ use Rattle.reader.specs.Reader.{after, asked_times, events_given, gives, reader_
 use Rattle.reader.specs.declared.Reader.{Reader}
 use Rattle.schedule.specs.Schedule.{GoodSchedule, NoPlace, event_at, events_in, events_of, given, good, one_event, start_of, stays}
 use Rattle.schedule.specs.Theorems.{given_end, given_event, given_refused, length_events, refused_stays}
-use Rattle.schedule.specs.declared.Given.{Given}
+use Rattle.schedule.specs.Given.{Given}
 
 -- ---- a reader of a good schedule s
 module _ (s : Bor (List ℕ)) (fine : good s.now ≡ true) where

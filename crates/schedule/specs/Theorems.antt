@@ -1,5 +1,5 @@
 -- What the promises about schedules come to, each under a plain sentence. The arguments are in Proof. Assumes nothing.
-use Rattle.std.specs.Prelude.{Bool, true, List, [], ◌∷◌, ◌⊎◌, ◌↔◌, ◌≡◌, ℕ, ◌+◌, ◌*◌, ◌≤◌, ◌<◌, drop, get_or, length}
+use Rattle.std.specs.Prelude.{Bool, false, true, List, [], ◌∷◌, ◌⊎◌, ◌↔◌, ◌≡◌, ℕ, ◌+◌, ◌*◌, ◌≤◌, ◌<◌, drop, get_or, length}
 use Rattle.events.specs.Events.{event}
 use Rattle.events.specs.declared.Event.{Event}
 use Rattle.lock.specs.Fresh.{in_size}
@@ -105,6 +105,10 @@ given_refused = Gives.given_refused
 -- .. "and stays", with no event.
 pub refused_stays : (b : List ℕ) (place : ℕ) → (given b place).number ≡ bad_schedule → given b place ≡ stays bad_schedule place
 refused_stays = Gives.refused_stays
+
+-- Where no event is given, at the end or after a refusal, the place to go on from is the same.
+pub none_stays : (b : List ℕ) (place : ℕ) → (given b place).found ≡ false → (given b place).place ≡ place
+none_stays = Gives.none_stays
 
 -- The heading is no event: place 0 gives 2 ..
 pub heading_is_no_event : (b : List ℕ) → given b 0 ≡ stays bad_schedule 0

@@ -13,7 +13,7 @@ use Rattle.events.specs.declared.Event.{Event}
 use Rattle.number.specs.Refused.{done}
 use Rattle.schedule.specs.Schedule.{event_at, events_in, events_of, given, good, start_of, stays}
 use Rattle.schedule.specs.Theorems.{events_from, given_end, given_event, length_events, length_good}
-use Rattle.schedule.specs.declared.Given.{Given}
+use Rattle.schedule.specs.Given.{Given}
 use Rattle.reader.specs.Reader.{asked_times, event_in, events_given, reader_at}
 use Rattle.reader.specs.declared.Reader.{Reader}
 

@@ -76,6 +76,13 @@ module _ (e : Event) (next place : ℕ) where
   stays_by true false true w = absurd (⊎_elim true≢false (λ r. true≢false r.1) w)
   stays_by true false false w = refl
 
+  -- No event is given but by the first two tests; without one the place stays.
+  none_by : (isGood starts ends : Bool) → (by_tests isGood starts ends).found ≡ false → (by_tests isGood starts ends).place ≡ place
+  none_by false starts ends h = refl
+  none_by true true ends h = absurd (true≢false h)
+  none_by true false true h = refl
+  none_by true false false h = refl
+
 module _ (b : List ℕ) (place : ℕ) where
   abbrev TestsFail : Type 0
   TestsFail = (good b ≡ false) ⊎ ((starts_event b place ≡ false) × (eqb place (length b) ≡ false))
@@ -113,6 +120,10 @@ module _ (b : List ℕ) (place : ℕ) where
   refused_stays h =
       stays_by _ _ place (good b) (starts_event b place) (eqb place (length b))
       (refused_by _ _ place (good b) (starts_event b place) (eqb place (length b)) h)
+
+  pub none_stays : (given b place).found ≡ false → (given b place).place ≡ place
+  unfolding given
+  none_stays = none_by _ _ place (good b) (starts_event b place) (eqb place (length b))
 
   -- What would be no place of a good schedule is refused, whatever the schedule.
   no_place_lem : (good b ≡ true → NoPlace b place) → given b place ≡ stays bad_schedule place
