@@ -46,11 +46,11 @@ impl From<Refusal> for u8 {
 }
 
 // The number that an answer is told by: success is 0.
-pub fn answer_number(answer: Result<(), Refusal>) -> u8
+pub fn answer_number<T: Copy>(answer: Result<T, Refusal>) -> u8
     ensures { result ≡ answer_of answer }
 {
     match answer {
-        Ok(()) => DONE,
+        Ok(_) => DONE,
         Err(refusal) => u8::from(refusal),
     }
 }
