@@ -4,15 +4,15 @@
 
 ghost use Rattle.std.specs.Prelude.{◌≡◌};
 ghost use Rattle.kept.specs.Kept.{kept_answer, kept_state};
+ghost use Rattle.number.specs.Answer.{answer_of};
 
 use lock::State;
-use number::{NodeNo, ThreadNo};
+use number::{NodeNo, Refusal, ThreadNo};
 
 // One event of the kept state: refusal 1, and then 5 to 12, the first that applies; a refusal leaves the state as it was.
-pub fn step_in(s: &mut State, t: ThreadNo, n: NodeNo) -> u8
-    ensures { (result ≡ kept_answer s.old t n) × (s.new ≡ kept_state s.old t n) }
+pub fn step_in(s: &mut State, t: ThreadNo, n: NodeNo) -> Result<(), Refusal>
+    ensures { (answer_of result ≡ kept_answer s.old t n) × (s.new ≡ kept_state s.old t n) }
 {
-    let stepped = step::step(*s, t, n);
-    *s = stepped.state;
-    stepped.answer
+    *s = step::step(*s, t, n)?;
+    Ok(())
 }

@@ -4,16 +4,15 @@
 
 ghost use Rattle.std.specs.Prelude.{◌≡◌};
 ghost use Rattle.lent.specs.Lent.{lent_answer, lent_bytes};
+ghost use Rattle.number.specs.Answer.{answer_of};
 
-use number::{BAD_STATE, NodeNo, ThreadNo};
+use number::{NodeNo, Refusal, ThreadNo};
 
 // One event of the saved state: refusal 1 if the bytes break a rule, and then 5 to 12, the first that
 // applies. A refusal changes no byte.
-pub fn step_saved(bytes: &mut [u8], t: ThreadNo, n: NodeNo) -> u8
-    ensures { (result ≡ lent_answer bytes.old t n) × (bytes.new ≡ lent_bytes bytes.old t n) }
+pub fn step_saved(bytes: &mut [u8], t: ThreadNo, n: NodeNo) -> Result<(), Refusal>
+    ensures { (answer_of result ≡ lent_answer bytes.old t n) × (bytes.new ≡ lent_bytes bytes.old t n) }
 {
-    if saved::good(bytes) {
-        return event::event(bytes, t, n);
-    }
-    BAD_STATE
+    number::refuse(!saved::good(bytes), Refusal::BadState)?;
+    event::event(bytes, t, n)
 }

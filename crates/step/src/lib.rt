@@ -5,33 +5,28 @@
 
 ghost use Rattle.std.specs.Prelude.{true, ◌≡◌};
 ghost use Rattle.machine.specs.Step.{advance as advance_of, step as step_of};
+ghost use Rattle.machine.specs.Stepped.{stepped_from};
 ghost use Rattle.saved.specs.Saved.{saved_good, state_in};
 
 use lock::State;
-pub use machine::Stepped;
-use number::{BAD_STATE, NodeNo, ThreadNo};
+use number::{NodeNo, Refusal, ThreadNo};
 
-// One event of a saved state that was judged before, and the state after it, taken up from the bytes.
-fn advance(b: &mut [u8], t: ThreadNo, n: NodeNo) -> Stepped
+// One event of a saved state that was judged before: the state after it, taken up from the bytes.
+fn advance(b: &mut [u8], t: ThreadNo, n: NodeNo) -> Result<State, Refusal>
     requires { saved_good b.old ≡ true }
-    ensures { result ≡ advance_of (state_in b.old) t n }
+    ensures { stepped_from (state_in b.old) result ≡ advance_of (state_in b.old) t n }
 {
-    let answer = event::event(b, t, n);
-    let state = saved::state_in(b);
-    Stepped { answer, state }
+    event::event(b, t, n)?;
+    Ok(saved::state_in(b))
 }
 
-// One event: refusal 1, and then 5 to 12, the first that applies; else the line's changes and nothing else.
-pub fn step(s: State, t: ThreadNo, n: NodeNo) -> Stepped
-    ensures { result ≡ step_of s t n }
+// One event: refusal 1, and then 5 to 12, the first that applies; else the state with the line's changes and
+// nothing else changed.
+pub fn step(s: State, t: ThreadNo, n: NodeNo) -> Result<State, Refusal>
+    ensures { stepped_from s result ≡ step_of s t n }
 {
-    if lock::valid(s) {
-        let mut bytes = saved::laid(s);
-        let long = saved::size(s.shared.threads, s.shared.nodes);
-        return advance(&mut bytes[..long], t, n);
-    }
-    Stepped {
-        answer: BAD_STATE,
-        state: s,
-    }
+    number::refuse(!lock::valid(s), Refusal::BadState)?;
+    let mut bytes = saved::laid(s);
+    let long = saved::size(s.shared.threads, s.shared.nodes);
+    advance(&mut bytes[..long], t, n)
 }

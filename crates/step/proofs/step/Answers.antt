@@ -1,22 +1,27 @@
 -- `step::step` meets its contract: the part of the buffer that is lent is the saved state of a valid state. Assumes nothing.
-use Rattle.std.proofs.Common.{◌≡◌, ◌∙◌, sym, take}
+use Rattle.std.proofs.Common.{Err, false, true, ◌≡◌, ◌∙◌, arith, sym, take}
 use Rattle.machine.specs.Step.{step}
+use Rattle.number.specs.declared.Refusal.TheVariants.{BadState}
 use Rattle.saved.specs.Proof.Held.{bytes_good}
 use Rattle.saved.specs.Saved.{state_in}
 use Rattle.step.proofs.step.Goals as goal
+
+pub returns-in_err-refuse : goal.returns-in_err-refuse
+unfolding step
+returns-in_err-refuse c =
+    let bad : c.valid.result ≡ false = grind arith in
+    let is : c.from_residual.result ≡ Err BadState = grind arith in
+    rw (is, sym c.valid.ensures ∙ bad)
 
 pub advance-requires : goal.advance-requires
 advance-requires c =
     let laid = c.laid-bytes.ensures in
     rw c.size-long.ensures (bytes_good _ _ laid.rule laid.bytes).0
 
-pub returns-then-valid : goal.returns-then-valid
-unfolding step
-returns-then-valid c =
-    let laid = c.laid-bytes.ensures in
-    let lent : state_in (take c.size-long.result c.laid-bytes.result) ≡ c.args.s = rw c.size-long.ensures (bytes_good _ _ laid.rule laid.bytes).1 in
-    rw (sym c.valid.ensures ∙ c.if-valid.true, ← lent) c.advance.ensures
-
 pub returns : goal.returns
 unfolding step
-returns c = rw (sym c.valid.ensures ∙ c.if-valid.false)
+returns c =
+    let laid = c.laid-bytes.ensures in
+    let lent : state_in (take c.size-long.result c.laid-bytes.result) ≡ c.args.s = rw c.size-long.ensures (bytes_good _ _ laid.rule laid.bytes).1 in
+    let good : c.valid.result ≡ true = grind arith in
+    rw (sym c.valid.ensures ∙ good, ← lent) c.advance.ensures
