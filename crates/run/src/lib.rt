@@ -3,21 +3,24 @@
 // `schedule`, `saved` and `event`, and in specs/ on `events` and `rows`.
 #![tactic(auto)]
 
-ghost use Rattle.std.specs.Prelude.{◌-◌, ◌≤◌, cond, true, ◌≡◌, drop, length};
+ghost use Rattle.std.specs.Prelude.{◌≤◌, true, ◌≡◌, drop, length};
 ghost use Rattle.events.specs.Row.{goes_on, waits as is_wait};
-ghost use Rattle.rows.specs.Rows.{over};
+ghost use Rattle.number.specs.Answer.{answer_of, number_of};
 ghost use Rattle.number.specs.Refused.{first_of};
-ghost use Rattle.run.specs.Run.{answers_of, before_events, differ as differ_of, onward, ran_over, refusal as refusal_of, reported, run as run_of, run_bytes};
-ghost use Rattle.run.specs.Run.{schedule_refusals, unread as unread_of, unread_from, up_to_end};
+ghost use Rattle.rows.specs.Rows.{over};
+ghost use Rattle.run.specs.Run.{answers_of, before_events, onward, ran_over, refusal as refusal_of, reported};
+ghost use Rattle.run.specs.Run.{run as run_of, run_bytes, schedule_refusals, unread as unread_of};
+ghost use Rattle.run.specs.Run.{unread_from, up_to_end};
 ghost use Rattle.run.specs.Saved.{run_left};
 ghost use Rattle.saved.specs.Saved.{bytes_of, read, saved_good, state_in};
-ghost use Rattle.schedule.specs.Schedule.{events_in, good, most_bytes};
+ghost use Rattle.schedule.specs.Schedule.{events_in, good};
 
 use lock::State;
-use number::{BAD_SCHEDULE, BAD_SIZE, BAD_STATE, DONE, MUST_WAIT, TOO_SHORT};
+use number::{DONE, Refusal, answer_number, refuse};
 use schedule::{Heading, WIDTH};
 
-// Events executed, events waited, and the stopping number, or 0.
+// Events executed, events waited, and the stopping number, or 0. It is a number and no `Refusal`, since
+// `unread` takes any report that its caller makes.
 #[derive(Clone, Copy)]
 pub struct Report {
     pub executed: u32,
@@ -34,75 +37,65 @@ pub struct Ran {
 
 // ---- refusals 1 to 4
 
-// 3: schedule and state differ in T or K.
-fn differ(threads: u8, nodes: u8, h: Heading) -> bool
-    ensures { result ≡ differ_of threads nodes h }
+// The first of 2 to 4 that applies to a state of this size, in this order. Each test can be made of any
+// bytes.
+fn schedule_refusal(size: Heading, schedule: &[u8], room: usize) -> Result<(), Refusal>
+    ensures { answer_of result ≡ first_of (schedule_refusals size.threads size.nodes schedule.now room) }
 {
-    !(threads == h.threads) | !(nodes == h.nodes)
-}
-
-// The first of 2 to 4 that applies, in this order; 0 if none does. Each test can be made of any bytes.
-fn schedule_refusal(threads: u8, nodes: u8, schedule: &[u8], room: usize) -> u8
-    ensures { result ≡ first_of (schedule_refusals threads nodes schedule.now room) }
-{
-    let bad = !schedule::good(schedule);
-    let other = differ(threads, nodes, schedule::heading_of(schedule));
-    let short = room < schedule::events_in(schedule);
-    let r4 = number::first(short, TOO_SHORT, DONE);
-    let r3 = number::first(other, BAD_SIZE, r4);
-    number::first(bad, BAD_SCHEDULE, r3)
+    refuse(!schedule::good(schedule), Refusal::BadSchedule)?;
+    refuse(schedule::heading_of(schedule) != size, Refusal::BadSize)?;
+    refuse(room < schedule::events_in(schedule), Refusal::TooShort)
 }
 
 // The first of 1 to 4 that applies to a run from s.
-fn refusal(s: State, schedule: &[u8], room: usize) -> u8
-    ensures { result ≡ refusal_of s schedule.now room }
+#[tactic(auto, unfolding(crate::specs::Run::refusal))]
+fn refusal(s: State, schedule: &[u8], room: usize) -> Result<(), Refusal>
+    ensures { answer_of result ≡ refusal_of s schedule.now room }
 {
-    let later = schedule_refusal(s.shared.threads, s.shared.nodes, schedule, room);
-    number::first(!lock::valid(s), BAD_STATE, later)
+    refuse(!lock::valid(s), Refusal::BadState)?;
+    let size = Heading {
+        threads: s.shared.threads,
+        nodes: s.shared.nodes,
+    };
+    schedule_refusal(size, schedule, room)
 }
 
 // The first of 1 to 4 that applies to a run from the state that the bytes hold.
-fn refusal_saved(bytes: &[u8], schedule: &[u8], room: usize) -> u8
-    ensures { result ≡ refusal_of (read bytes.now).state schedule.now room }
+fn refusal_saved(bytes: &[u8], schedule: &[u8], room: usize) -> Result<(), Refusal>
+    ensures { answer_of result ≡ refusal_of (read bytes.now).state schedule.now room }
 {
-    if saved::good(bytes) {
-        return schedule_refusal(cells::threads(bytes), cells::nodes(bytes), schedule, room);
-    }
-    BAD_STATE
+    refuse(!saved::good(bytes), Refusal::BadState)?;
+    let size = Heading {
+        threads: cells::threads(bytes),
+        nodes: cells::nodes(bytes),
+    };
+    schedule_refusal(size, schedule, room)
 }
 
 // ---- the report
 
-// The answer is that of an event that waited. No other function knows a wait's number.
+// The answer is that of an event that waited.
 fn waits(answer: u8) -> bool
     ensures { result ≡ is_wait answer }
 {
-    answer == MUST_WAIT
+    answer == u8::from(Refusal::MustWait)
 }
 
 // After 0 or a wait the run goes on. Public for other rows of steps.
 pub fn goes_on(answer: u8) -> bool
     ensures { result ≡ goes_on answer }
 {
-    (answer == DONE) | waits(answer)
+    answer == DONE || waits(answer)
 }
 
-// What one answer more adds to the events that waited.
-fn more_waited(answer: u8) -> u32
-    ensures { result ≡ cond (is_wait answer) 1 0 }
-{
-    if waits(answer) { 1 } else { 0 }
-}
-
-// So many events went on, of which so many waited, and the stopping number.
-fn tallied(taken: usize, waited: u32, stop: u8) -> Report
-    requires { (waited ≤ taken) × (taken ≤ most_bytes) }
-    ensures { result ≡ reported (taken - waited) waited stop }
+// No event was executed, since one of 1 to 4 came before the first.
+fn refused(refusal: Refusal) -> Report
+    ensures { result ≡ reported 0 0 (number_of refusal) }
 {
     Report {
-        executed: taken as u32 - waited,
-        waited,
-        stop,
+        executed: 0,
+        waited: 0,
+        stop: u8::from(refusal),
     }
 }
 
@@ -116,20 +109,29 @@ pub fn run_events(b: &mut [u8], schedule: &[u8], answers: &mut [u8]) -> Report
     ensures leaves { b.new ≡ bytes_of (ran_over (state_in b.old) schedule.now).state }
     ensures stores { answers.new ≡ over (answers_of (state_in b.old) schedule.now) answers.old }
 {
-    let n = schedule::events_in(schedule);
-    let mut waited: u32 = 0;
-    let mut i = 0;
-    while i < n {
+    let mut executed = 0;
+    let mut waited = 0;
+    for i in 0..schedule::events_in(schedule) {
         let e = schedule::event_at(schedule, i);
         let answer = event::event(b, e.thread, e.node);
-        answers[i] = answer;
-        if !goes_on(answer) {
-            return tallied(i, waited, answer);
+        answers[i] = answer_number(answer);
+        match answer {
+            Ok(()) => executed += 1,
+            Err(Refusal::MustWait) => waited += 1,
+            Err(refusal) => {
+                return Report {
+                    executed,
+                    waited,
+                    stop: u8::from(refusal),
+                };
+            }
         }
-        waited += more_waited(answer);
-        i += 1;
     }
-    tallied(n, waited, DONE)
+    Report {
+        executed,
+        waited,
+        stop: DONE,
+    }
 }
 
 // The run from the state that the bytes hold, in these bytes. Refusals 1 to 4 change nothing.
@@ -138,11 +140,10 @@ pub fn run_saved(bytes: &mut [u8], schedule: &[u8], answers: &mut [u8]) -> Repor
     ensures leaves { bytes.new ≡ run_left bytes.old schedule.now answers.old }
     ensures stores { answers.new ≡ run_bytes (read bytes.old).state schedule.now answers.old }
 {
-    let refused = refusal_saved(bytes, schedule, answers.len());
-    if refused == DONE {
-        return run_events(bytes, schedule, answers);
+    match refusal_saved(bytes, schedule, answers.len()) {
+        Ok(()) => run_events(bytes, schedule, answers),
+        Err(refusal) => refused(refusal),
     }
-    tallied(0, 0, refused)
 }
 
 // The events, and the state that they end in, taken up from the bytes.
@@ -162,14 +163,17 @@ pub fn run(s: State, schedule: &[u8], answers: &mut [u8]) -> Ran
     ensures gives { result ≡ run_of s schedule.now answers.old }
     ensures stores { answers.new ≡ run_bytes s schedule.now answers.old }
 {
-    let refused = refusal(s, schedule, answers.len());
-    if refused == DONE {
-        let mut bytes = saved::laid(s);
-        let long = saved::size(s.shared.threads, s.shared.nodes);
-        return run_laid(&mut bytes[..long], schedule, answers);
+    match refusal(s, schedule, answers.len()) {
+        Ok(()) => {
+            let mut bytes = saved::laid(s);
+            let long = saved::size(s.shared.threads, s.shared.nodes);
+            run_laid(&mut bytes[..long], schedule, answers)
+        }
+        Err(refusal) => Ran {
+            report: refused(refusal),
+            state: s,
+        },
     }
-    let report = tallied(0, 0, refused);
-    Ran { report, state: s }
 }
 
 // ---- the unread part
@@ -179,18 +183,14 @@ fn part_from<'a>(schedule: &'a [u8], at: usize) -> &'a [u8]
     ensures bytes { result.now ≡ drop (up_to_end at schedule.now) schedule.now }
     ensures own { result.ref_ptr ≡ onward schedule.entry.ref_ptr (up_to_end at schedule.now) }
 {
-    let end = schedule.len();
-    if at <= end {
-        return &schedule[at..];
-    }
-    &schedule[end..]
+    &schedule[at.min(schedule.len())..]
 }
 
 // The refusals that come before the first event: 1 to 4. (0 was told apart before.)
 fn before_events(number: u8) -> bool
     ensures { result ≡ before_events number }
 {
-    number <= TOO_SHORT
+    number <= u8::from(Refusal::TooShort)
 }
 
 // The unread part of the caller's own schedule: what follows the stopping event, nothing if none stopped

@@ -1,6 +1,6 @@
--- The loop's invariant: the first i events are taken and none of them stopped (`SoFar`), so many of them waited, their answers stand in the buffer, and the
--- bytes are a saved state, that after these events. The measure is how many events are left.
-use Rattle.std.proofs.Common.{drop, take, true, ◌++◌, ◌-◌, ◌≡◌}
+-- The loop's invariant: the first i events are taken and none of them stopped (`SoFar`), so many of them were executed and so many waited, their answers stand in
+-- the buffer, and the bytes are a saved state, that after these events.
+use Rattle.std.proofs.Common.{drop, take, true, ◌++◌, ◌≡◌}
 use Rattle.events.specs.Laws.{SoFar, row}
 use Rattle.machine.specs.Step.{advance}
 use Rattle.rows.specs.Rows.{Bytes}
@@ -10,11 +10,8 @@ use Rattle.run.proofs.run_events.Given as goal
 
 abbrev pub invariant-loop-i : goal.invariant-loop-i
 invariant-loop-i l = record {
-  so_far : SoFar advance (state_in l.fn.b) (events_of l.schedule) l.i (state_in l.b) (l.i - l.waited) l.waited;
+  so_far : SoFar advance (state_in l.fn.b) (events_of l.schedule) l.i (state_in l.b) l.executed l.waited;
   stored : l.answers ≡ take l.i (row advance (state_in l.fn.b) (events_of l.schedule)) ++ drop l.i l.fn.answers;
   good : saved_good l.b ≡ true;
   bytes : Bytes l.b;
 }
-
-abbrev pub decreases-loop-i : goal.decreases-loop-i
-decreases-loop-i l = l.n - l.i

@@ -1,5 +1,6 @@
 -- `run::run_saved` meets its contract. A run that is not refused has good bytes, a good schedule and room for its answers. Assumes nothing.
-use Rattle.std.proofs.Common.{Bool, List, false, length, refl, sym, true, true≢false, ℕ, ◌≡◌, ◌∙◌}
+use Rattle.std.proofs.Common.{Bool, List, ap, false, length, refl, sym, true, true≢false, ℕ, ◌≡◌, ◌∙◌}
+use Rattle.number.specs.Answer.{answer_of, refused as no_done}
 use Rattle.run.specs.Proof.Refused.{Passed, passed}
 use Rattle.run.specs.Saved.{accepted_run, refused_run}
 use Rattle.saved.specs.Proof.Held.{bad_valid, good_state}
@@ -17,20 +18,20 @@ good b schedule room p = by_test (saved_good b) refl
 pub run_events-requires : goal.run_events-requires
 run_events-requires c =
     let a = c.args in
-    let p = passed (read a.bytes.now).state a.schedule.now (length a.answers.now) (sym c.refusal_saved-refused.ensures ∙ c.if-refused-eq-DONE.true) in
+    let p = passed (read a.bytes.now).state a.schedule.now (length a.answers.now) (sym c.refusal_saved.ensures ∙ ap answer_of c.in-Ok.is) in
     (good a.bytes.now _ _ p, p.schedule, p.answers)
 
-pub returns-then-refused-eq-DONE : goal.returns-then-refused-eq-DONE
-returns-then-refused-eq-DONE c =
+pub returns-in-Ok : goal.returns-in-Ok
+returns-in-Ok c =
     let a = c.args in
-    let none = sym c.refusal_saved-refused.ensures ∙ c.if-refused-eq-DONE.true in
+    let none = sym c.refusal_saved.ensures ∙ ap answer_of c.in-Ok.is in
     let p = passed (read a.bytes.now).state a.schedule.now (length a.answers.now) none in
     let to = accepted_run a.bytes.now a.schedule.now a.answers.now none in
     let same = rw (← good_state a.bytes.now (good a.bytes.now _ _ p)) at c.run_events.ensures in
     record { reports = same.gives ∙ to.0; leaves = same.leaves ∙ to.1; stores = same.stores ∙ to.2 }
 
-pub returns : goal.returns
-returns c =
+pub returns-in-Err : goal.returns-in-Err
+returns-in-Err c =
     let a = c.args in
-    let to = refused_run a.bytes.now a.schedule.now a.answers.now c.refusal_saved-refused.ensures c.if-refused-eq-DONE.false in
-    record { reports = c.tallied.ensures ∙ to.0; leaves = to.1; stores = to.2 }
+    let to = refused_run a.bytes.now a.schedule.now a.answers.now (sym (ap answer_of c.in-Err.is) ∙ c.refusal_saved.ensures) (no_done c.in-Err.refusal) in
+    record { reports = c.refused.ensures ∙ to.0; leaves = to.1; stores = to.2 }
