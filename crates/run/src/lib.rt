@@ -3,14 +3,13 @@
 // `schedule`, `saved` and `event`, and in specs/ on `events` and `rows`.
 #![tactic(auto)]
 
-ghost use Rattle.std.specs.Prelude.{◌≤◌, true, ◌≡◌, drop, length};
+ghost use Rattle.std.specs.Prelude.{◌≤◌, true, ◌≡◌, length};
 ghost use Rattle.events.specs.Row.{goes_on, waits as is_wait};
 ghost use Rattle.number.specs.Answer.{answer_of, number_of};
 ghost use Rattle.number.specs.Refused.{first_of};
 ghost use Rattle.rows.specs.Rows.{over};
-ghost use Rattle.run.specs.Run.{answers_of, before_events, onward, ran_over, refusal as refusal_of, reported};
-ghost use Rattle.run.specs.Run.{run as run_of, run_bytes, schedule_refusals, unread as unread_of};
-ghost use Rattle.run.specs.Run.{unread_from, up_to_end};
+ghost use Rattle.run.specs.Run.{answers_of, onward, ran_over, refusal as refusal_of, reported, run as run_of};
+ghost use Rattle.run.specs.Run.{run_bytes, schedule_refusals, unread as unread_of, unread_from};
 ghost use Rattle.run.specs.Saved.{run_left};
 ghost use Rattle.saved.specs.Saved.{bytes_of, read, saved_good, state_in};
 ghost use Rattle.schedule.specs.Schedule.{events_in, good};
@@ -178,35 +177,18 @@ pub fn run(s: State, schedule: &[u8], answers: &mut [u8]) -> Ran
 
 // ---- the unread part
 
-// What follows the first `at` bytes, where it lies; nothing, at the end, where there are not so many.
-fn part_from<'a>(schedule: &'a [u8], at: usize) -> &'a [u8]
-    ensures bytes { result.now ≡ drop (up_to_end at schedule.now) schedule.now }
-    ensures own { result.ref_ptr ≡ onward schedule.entry.ref_ptr (up_to_end at schedule.now) }
-{
-    &schedule[at.min(schedule.len())..]
-}
-
-// The refusals that come before the first event: 1 to 4. (0 was told apart before.)
-fn before_events(number: u8) -> bool
-    ensures { result ≡ before_events number }
-{
-    number <= u8::from(Refusal::TooShort)
-}
-
 // The unread part of the caller's own schedule: what follows the stopping event, nothing if none stopped
-// the run, the whole of it after refusals 1 to 4. Whatever the report says, it is a part of this schedule,
-// and no copy.
+// the run, the whole of it after refusals 1 to 4, which come before the first event. Whatever the report
+// says, it is a part of this schedule, and no copy.
+#[tactic(auto, unfolding(crate::specs::Run::unread_from))]
 pub fn unread<'a>(schedule: &'a [u8], report: Report) -> &'a [u8]
     ensures bytes { result.now ≡ unread_of schedule.now report }
     ensures own { result.ref_ptr ≡ onward schedule.entry.ref_ptr (unread_from schedule.now report) }
 {
-    let end = schedule.len();
-    if report.stop == DONE {
-        return part_from(schedule, end);
-    }
-    if before_events(report.stop) {
-        return part_from(schedule, 0);
-    }
-    let taken = report.executed as usize + report.waited as usize + 1;
-    part_from(schedule, WIDTH + WIDTH * taken)
+    let from = match report.stop {
+        DONE => schedule.len(),
+        1..=4 => 0,
+        _ => WIDTH + WIDTH * (report.executed as usize + report.waited as usize + 1),
+    };
+    &schedule[from.min(schedule.len())..]
 }

@@ -1,5 +1,5 @@
 -- `run::refusal_saved` meets its contract: the state that good bytes hold is valid and has the T and K that they show, and that of bad ones is not. Assumes nothing.
-use Rattle.std.proofs.Common.{false, rules, sym, true, ◌≡◌, ◌∙◌}
+use Rattle.std.proofs.Common.{false, rules, true, ◌≡◌, ◌∙◌}
 use Rattle.cells.specs.Proof.Good.{held, laid}
 use Rattle.rows.specs.Rows.{Bytes}
 use Rattle.run.specs.Run.{refusal}

@@ -1,14 +1,13 @@
 -- `run::run_events` meets its contract. Where event i is answered, it is the next of the row, and the bytes are a saved state again (`told`); its answer is
 -- stored at its place (`kept`). Rests on the laws of a row of events (crate `events`) and on Laws. Assumes nothing.
-use Rattle.std.proofs.Common.{List, ap, arith, drop, length, rules, set, sym, take, true, ℕ, ◌++◌, ◌+◌, ◌<◌, ◌≡◌, ◌≢◌, ◌≤◌, ◌∙◌}
+use Rattle.std.proofs.Common.{List, ap, arith, drop, length, rules, set, take, true, ℕ, ◌++◌, ◌+◌, ◌<◌, ◌≡◌, ◌≢◌, ◌≤◌, ◌∙◌}
 use Rattle.event.specs.Event.{Advanced}
 use Rattle.event.specs.Proof.Good.{again_good}
-use Rattle.events.specs.Laws.{Next, Over, SoFar, at_the_end, next_at, row, start, stops_here, stored, stored_all}
-use Rattle.events.specs.Row.{goes_on}
+use Rattle.events.specs.Laws.{Next, SoFar, at_the_end, next_at, row, start, stops_here, stored, stored_all}
 use Rattle.events.specs.declared.Event.{Event}
 use Rattle.lock.specs.declared.State.{State}
 use Rattle.machine.specs.Step.{advance, stepped}
-use Rattle.number.specs.Answer.{answer_of, number_of}
+use Rattle.number.specs.Answer.{answer_of}
 use Rattle.number.specs.Refused.{done}
 use Rattle.number.specs.declared.Refusal.TheVariants.{MustWait}
 use Rattle.rows.specs.Rows.{Bytes}
@@ -68,8 +67,8 @@ returns-in-Err c =
       gives = rw (c.from.ensures, ← ap answer_of c.in-Err.is) e.0;
       leaves = e.1;
       stores =
-      rw c.answer_number.ensures
-      (kept s₀ schedule f t.0 c.args.answers.now (omega arith) c.loop-i.invariant.stored ∙ stored_all advance s₀ (events_of schedule) o c.args.answers.now);
+          rw c.answer_number.ensures
+          (kept s₀ schedule f t.0 c.args.answers.now (omega arith) c.loop-i.invariant.stored ∙ stored_all advance s₀ (events_of schedule) o c.args.answers.now);
     }
 
 pub loop-i-preserved : goal.loop-i-preserved
@@ -81,10 +80,10 @@ loop-i-preserved c =
     let t = told s₀ schedule c.loop-i.b c.loop-i.invariant.good inside c.event_at-e.result c.event_at-e.ensures c.event-answer.ensures in
     record {
       so_far =
-      elim c.match-answer.branch [
-        in-Ok w ↦ rw (w.executed-is, w.waited-is) (executed_more advance s₀ (events_of schedule) f t.0 (ap answer_of w.in-Ok.is))
-        | in-Err-MustWait w ↦ rw (w.executed-is, w.waited-is) (waited_more advance s₀ (events_of schedule) f t.0 (rw (w.in-Err-MustWait.is, rw w.in-Err-MustWait.is at w.in-Err-MustWait.field-0-is)))
-      ];
+          elim c.match-answer.branch [
+            | in-Ok w ↦ rw (w.executed-is, w.waited-is) (executed_more advance s₀ (events_of schedule) f t.0 (ap answer_of w.in-Ok.is))
+            | in-Err-MustWait w ↦ rw (w.executed-is, w.waited-is) (waited_more advance s₀ (events_of schedule) f t.0 (rw (w.in-Err-MustWait.is, rw w.in-Err-MustWait.is at w.in-Err-MustWait.field-0-is)))
+          ];
       stored = rw c.answer_number.ensures (kept s₀ schedule f t.0 c.args.answers.now (omega arith) c.loop-i.invariant.stored);
       good = t.1;
       bytes = search rules;
