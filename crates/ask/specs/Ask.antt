@@ -1,6 +1,7 @@
 -- Document 01, "Questions about a state", and the nodes in use of "The state". The definitions that the contracts of the calls cite: what each call
 -- gives, for every input. Meaning.antt has the document's sentences as facts, and Theorems.antt says that the two agree. Assumes nothing.
 use Rattle.std.specs.Prelude.{Bool, cond, false, not, true, ◌&&◌, ◌||◌, List, [], ◌∷◌, ℕ, zero, suc, ◌+◌, eqb, leb, ltb, length}
+use Rattle.std.proofs.Common.{Err, Ok, Result}
 use Rattle.lines.specs.Lines.{line_at}
 use Rattle.lines.specs.declared.Wait.{Wait}
 use Rattle.lines.specs.declared.Wait.TheVariants.{ForFlag, ForLink, ForUnlock, NoWait}
@@ -8,14 +9,16 @@ use Rattle.lock.specs.State.{node_at, thread_at}
 use Rattle.lock.specs.Valid.{valid}
 use Rattle.lock.specs.declared.State.{State}
 use Rattle.lock.specs.declared.Thread.{Thread}
+use Rattle.number.specs.Answer.{number_of}
 use Rattle.number.specs.Numbers.{is_bottom, thread}
 use Rattle.number.specs.Refused.{Refusal, ◌if◌, bad_state, done, first_of, too_short, wrong_node}
 use Rattle.number.specs.declared.NodeNo.{NodeNo}
+use Rattle.number.specs.declared.Refusal.{Refusal as Refused}
 use Rattle.rows.specs.Rows.{over}
 use Rattle.word.specs.Word.{how_many}
-use Rattle.ask.specs.declared.Asked.{Asked}
-use Rattle.ask.specs.declared.Sought.{Sought}
-use Rattle.ask.specs.declared.Sought.TheVariants.{Holding, Waiting}
+use Rattle.ask.specs.Asked.{Asked}
+use Rattle.ask.specs.declared.LockStatus.{LockStatus}
+use Rattle.ask.specs.declared.LockStatus.TheVariants.{Free, Held, Passing}
 
 -- ---- what a question gives
 
@@ -57,11 +60,6 @@ is_counted ForLink = false
 abbrev pub is_waiting : Thread → Bool
 is_waiting v = is_counted (line_at v.line).wait
 
--- the thread is one of those that a question looks for
-abbrev pub is_sought : Sought → Thread → Bool
-is_sought Holding v = is_holding v
-is_sought Waiting v = is_waiting v
-
 -- ---- status
 
 -- "1 free", "2 held", "3 passing"
@@ -73,6 +71,17 @@ held = 2
 
 abbrev pub passing : ℕ
 passing = 3
+
+-- the number of each
+abbrev pub number_of_status : LockStatus → ℕ
+number_of_status Free = free
+number_of_status Held = held
+number_of_status Passing = passing
+
+-- what a status question gives, by each case of its answer
+abbrev pub asked_status : Result LockStatus Refused → Asked
+asked_status (Ok found) = answered (number_of_status found)
+asked_status (Err r) = refused (number_of r)
 
 -- "tail is 0 and flag is 1"
 abbrev pub is_free : State → Bool

@@ -18,7 +18,7 @@ use Rattle.ask.specs.Proof.Count
 use Rattle.ask.specs.Proof.InUse
 use Rattle.ask.specs.Proof.Status
 use Rattle.ask.specs.Proof.Waits
-use Rattle.ask.specs.declared.Asked.{Asked}
+use Rattle.ask.specs.Asked.{Asked}
 
 -- ---- status
 

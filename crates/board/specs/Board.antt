@@ -2,7 +2,7 @@
 -- bytes hold: for each call its number, its values and its bytes, and when each number is given. Theorems.antt says what they come to. Assumes nothing.
 use Rattle.std.specs.Prelude.{Bool, cond, not, ◌&&◌, List, [], ◌∷◌, ◌≢◌, ◌⊎◌, ◌≡◌, ℕ, ◌<◌, eqb, leb, ltb, length}
 use Rattle.ask.specs.Ask.{chain, chain_bytes, nodes_in_use, status, waiting}
-use Rattle.ask.specs.declared.Asked.{Asked}
+use Rattle.ask.specs.Asked.{Asked}
 use Rattle.lent.specs.Lent.{lent_answer, lent_bytes}
 use Rattle.lock.specs.Fresh.{fresh_state, in_size}
 use Rattle.lock.specs.Valid.{Between}

@@ -6,7 +6,7 @@ use Rattle.std.proofs.Common.{ap}
 use Rattle.ask.specs.Ask.{answered, how_many_threads, refused}
 use Rattle.ask.specs.Meaning.{ChainOf, StatusIs, at16or19}
 use Rattle.ask.specs.Theorems.{chain_answer, chain_exactly, chain_refused, in_use_nodes, status_exactly, waiting_lines}
-use Rattle.ask.specs.declared.Asked.{Asked}
+use Rattle.ask.specs.Asked.{Asked}
 use Rattle.lent.specs.Lent.{lent_conditions}
 use Rattle.lent.specs.Theorems.{lent_accepted, lent_exactly, lent_refused}
 use Rattle.lock.specs.Fresh.{fresh_state, opened}

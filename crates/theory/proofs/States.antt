@@ -7,7 +7,7 @@ use Rattle.std.proofs.Math.Logic.{by_cases}
 use Rattle.std.proofs.Math.Decide.{dec_le, ℕ_discrete}
 use Rattle.ask.specs.Meaning.{Free}
 use Rattle.ask.specs.Theorems.{status_exactly}
-use Rattle.ask.specs.declared.Asked.{Asked}
+use Rattle.ask.specs.Asked.{Asked}
 use Rattle.figure.specs.Figure.{high, line, local, low, my, prev, succ}
 use Rattle.lock.specs.Laws.{nth_none}
 use Rattle.lock.specs.State.{thread_at, zero_thread}

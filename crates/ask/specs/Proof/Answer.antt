@@ -1,25 +1,19 @@
 -- What a question gives, case by case: its value in a valid state and refusal 1 in any other; the numbers of a chain question, and what it gives and
--- writes by its number. A state that was laid in a buffer is the one that is asked there. Rests on FirstThat (crate `number`), on the rule of a state and
+-- writes by its number. Rests on FirstThat (crate `number`), on the rule of a state and
 -- on saved states. Assumes nothing.
-use Rattle.std.specs.Prelude.{false, true, List, ◌≢◌, ◌↔◌, ◌≡◌, refl, ℕ, ◌≤◌, get_or, length, take}
-use Rattle.std.proofs.Common.{arith, ltb-false, ne_eqb}
+use Rattle.std.specs.Prelude.{false, true, List, ◌≢◌, ◌↔◌, ◌≡◌, refl, ℕ, ◌≤◌, ◌<◌, get_or, length}
+use Rattle.std.proofs.Common.{arith, le-ltb, lt-ltb, ltb-false, ne_eqb}
 use Rattle.lock.specs.Judged.{in_table, judges_outside, judges_state, rule_valid, valid_rule}
 use Rattle.lock.specs.Valid.{Between, Sized, Valid, valid}
 use Rattle.lock.specs.declared.State.{State}
 use Rattle.number.specs.FirstThat.{judges_short, none_holds, number_exactly}
-use Rattle.number.specs.Refused.{bad_state, done, wrong_node}
+use Rattle.number.specs.Refused.{bad_state, done, too_short, wrong_node}
 use Rattle.number.specs.Tests.{cannot_hold}
 use Rattle.number.specs.declared.NodeNo.{NodeNo}
 use Rattle.rows.specs.Rows.{over}
 use Rattle.rows.specs.Stored.{over_later}
-use Rattle.saved.specs.Inner.{LaidIn}
-use Rattle.saved.specs.Proof.Held.{bytes_good}
-use Rattle.saved.specs.Saved.{saved_good, size_of, state_in}
-use Rattle.ask.specs.Ask.{answered, chain, chain_bytes, chain_from, chain_list, chain_number, chain_refusals, judged, nodes_in_use, refused, status, waiting}
-use Rattle.ask.specs.Inner.{asked, value_of}
+use Rattle.ask.specs.Ask.{answered, chain, chain_bytes, chain_from, chain_list, chain_number, chain_refusals, is_outside, judged, refused}
 use Rattle.ask.specs.Meaning.{First, chain_conditions}
-use Rattle.ask.specs.declared.Question.{Question}
-use Rattle.ask.specs.declared.Question.TheVariants.{InUse, Status, Waiting}
 
 -- ---- a question that judges its state
 
@@ -31,23 +25,6 @@ judged_valid s value rule = rw (rule_valid s rule)
 pub judged_refused : (s : State) (value : ℕ) → Sized s → ¬ Valid s → judged s value ≡ refused bad_state
 judged_refused s value sized broken =
     rw (cannot_hold (valid s) (λ h. broken (valid_rule s sized h)))
-
--- each of the three questions with a number for an answer is one
-judges : (q : Question) (s : State) → asked q s ≡ judged s (value_of q s)
-unfolding status waiting nodes_in_use
-judges Status s = refl
-judges Waiting s = refl
-judges InUse s = refl
-
-pub answers : (q : Question) (s : State) {z : State} {x : ℕ} → valid s ≡ true → x ≡ value_of q z → z ≡ s → answered x ≡ asked q s
-answers q s good is same = rw (judges q s, good, is, same)
-
-pub refuses : (q : Question) (s : State) → valid s ≡ false → refused bad_state ≡ asked q s
-refuses q s bad = rw (judges q s, bad)
-
--- The part of a buffer that a state was laid in holds that state.
-pub lent : {s : State} {r : List ℕ} {n : ℕ} → LaidIn s r → n ≡ size_of s → (saved_good (take n r) ≡ true) × (state_in (take n r) ≡ s)
-lent {s} in-it long = rw long (bytes_good _ s in-it.rule in-it.bytes)
 
 -- ---- the numbers of a chain question
 module _ (s : State) (from : NodeNo) (room : ℕ) where
@@ -84,6 +61,24 @@ module _ (s : State) (from : NodeNo) (out : List ℕ) where
   pub refuses_chain : valid s ≡ false → (refused bad_state ≡ chain s from out) × (out ≡ chain_bytes s from out)
   unfolding chain chain_bytes chain_list chain_number
   refuses_chain bad = rw bad (refl, refl)
+
+  -- In a valid state: where the output is too short, ..
+  pub chain_short : Valid s → length out < s.shared.nodes → (refused too_short ≡ chain s from out) × (out ≡ chain_bytes s from out)
+  unfolding chain chain_bytes chain_list chain_number
+  chain_short rule short = rw (rule_valid s rule, lt-ltb _ _ short) (refl, refl)
+
+  -- .. else where the chain starts at no node, ..
+  pub chain_outside : Valid s → s.shared.nodes ≤ length out → is_outside s.shared.nodes from ≡ true
+      → (refused wrong_node ≡ chain s from out) × (out ≡ chain_bytes s from out)
+  unfolding chain chain_bytes chain_list chain_number
+  chain_outside rule room off = rw (rule_valid s rule, le-ltb _ _ room, off) (refl, refl)
+
+  -- .. and else.
+  pub chain_given : Valid s → s.shared.nodes ≤ length out → is_outside s.shared.nodes from ≡ false
+      → let list = chain_from s.shared.nodes s from in
+      (answered (length list) ≡ chain s from out) × (over list out ≡ chain_bytes s from out)
+  unfolding chain chain_bytes chain_list chain_number
+  chain_given rule room on = rw (rule_valid s rule, le-ltb _ _ room, on) (refl, refl)
 
   -- From the list's end on every byte is as it was.
   pub bytes_stay : (i : ℕ) → (chain s from out).value ≤ i → get_or (chain_bytes s from out) i 0 ≡ get_or out i 0

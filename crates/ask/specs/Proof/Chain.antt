@@ -1,14 +1,16 @@
 -- The chain: one link, what holds at each place of it, that it is as document 01 says and that no second list is, and how it is written. By induction
 -- on the number of nodes that are left; what is said of places is one law (`by_place`). Rests on Answer. Assumes nothing.
-use Rattle.std.proofs.Math.Bool.{cond}
+use Rattle.std.proofs.Math.Bool.{cond, false, true, ◌||◌}
 use mathlib.Core.List.{List, [], ◌∷◌, ◌++◌, append-nil}
-use Rattle.std.specs.Prelude.{◌≢◌, ◌⊎◌, ◌≡◌, drop, set, take}
+use Rattle.std.specs.Prelude.{◌≢◌, ◌⊎◌, ◌≡◌, drop, eqb, set, take}
 use Rattle.std.proofs.Math.Logic.{by_cases, inl, inr}
 use Rattle.std.proofs.Common.{⊎_elim, ◌∙◌, ext_get_or, eq-eqb, ne_eqb}
 use Rattle.std.proofs.Math.Path.{ap, refl, sym}
 use Prim.Native.Nat.{ℕ, zero, suc, ◌-◌, ◌≤◌, ◌<◌}
+use Rattle.std.proofs.Math.Dec.{eqb-suc-zero}
 use Rattle.std.proofs.Math.Decide.{ℕ_discrete}
 use native.Mathlib.Omega.{arith}
+use Rattle.std.proofs.lemmas.Bool.{eqb-false}
 use Rattle.std.proofs.Math.ListN.{get_or, length}
 use Rattle.std.proofs.Math.Seq.{drop-length, take-length}
 use Rattle.lock.specs.State.{◌⟨shared≔◌⟩, ◌⟨used≔◌⟩}
@@ -16,6 +18,7 @@ use Rattle.lock.specs.Valid.{Between, Valid}
 use Rattle.lock.specs.declared.State.{State}
 use Rattle.number.specs.Numbers.{is_bottom, node}
 use Rattle.number.specs.Refused.{done}
+use Rattle.number.specs.Tests.{neither_holds}
 use Rattle.number.specs.declared.NodeNo.{NodeNo}
 use Rattle.rows.specs.Rows.{over}
 use Rattle.ask.specs.Ask.{answered, chain, chain_bytes, chain_from, next}
@@ -25,17 +28,15 @@ use Rattle.ask.specs.Proof.Answer.{chain_accepted, enough}
 module _ (s : State) where
   -- ---- one link
 
-  -- Where no node is left the chain is empty.
-  pub none_left : (left : ℕ) (k : NodeNo) → left ≡ 0 → chain_from left s k ≡ []
+  -- Where no node is left, and from 0, the chain is empty.
+  pub ends_here : (left : ℕ) (k : NodeNo) → (eqb left 0 || is_bottom k) ≡ true → chain_from left s k ≡ []
   unfolding chain_from
-  none_left zero k h = refl
-  none_left (suc left) k h = absurd (omega arith)
+  ends_here zero k h = refl
+  ends_here (suc left) k h = let e : is_bottom k ≡ true = rw eqb-suc-zero at h in rw e
 
-  -- From 0 the chain is empty.
-  pub from_bottom : (left : ℕ) (k : NodeNo) → k.0 ≡ 0 → chain_from left s k ≡ []
-  unfolding chain_from
-  from_bottom zero k h = refl
-  from_bottom (suc left) k h = rw (eq-eqb k.0 0 h)
+  -- Elsewhere some are left, and k is not 0.
+  pub not_here : {left : ℕ} {k : NodeNo} → (eqb left 0 || is_bottom k) ≡ false → (left ≢ 0) × (k.0 ≢ 0)
+  not_here h = let neither = neither_holds _ _ h in (eqb-false _ _ neither.0, eqb-false _ _ neither.1)
 
   -- Otherwise node k stands first, and the chain goes on from its next.
   pub goes_on_lem : (left : ℕ) (k : NodeNo) → left ≢ 0 → k.0 ≢ 0 → chain_from left s k ≡ k.0 ∷ chain_from (left - 1) s (next s k)

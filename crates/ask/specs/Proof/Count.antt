@@ -3,7 +3,7 @@ use Rattle.std.specs.Prelude.{Bool, cond, false, true, List, ◌≢◌, ◌≡�
 use Rattle.std.proofs.Math.Logic.{⊎_elim}
 use Rattle.std.proofs.Math.Path.{ap, refl, sym}
 use Rattle.std.proofs.Common.{◌∙◌, eq-or-lt_of_le, arith}
-use Prim.Native.Nat.{ℕ, zero, suc, ◌+◌, ◌≤◌, ◌<◌}
+use Prim.Native.Nat.{ℕ, zero, suc, ◌+◌, ◌-◌, ◌≤◌, ◌<◌}
 use Rattle.lock.specs.Laws.{nth_set_other, nth_set_same}
 use Rattle.lock.specs.State.{◌⟨thread◌≔◌⟩, nth, thread_at, zero_thread}
 use Rattle.lock.specs.Valid.{Between, Valid}
@@ -30,6 +30,13 @@ pub threads_at_most : (t : ℕ) (test : Thread → Bool) (s : State) → how_man
 unfolding how_many_threads_to
 threads_at_most zero test s = omega arith
 threads_at_most (suc t) test s = omega (arith, threads_at_most t test s, at_most_one (test (thread_at s (thread (suc t)))))
+
+-- Of the threads 1 to t the last adds 1, if it passes, to those before it.
+pub one_thread_more : (t : ℕ) (test : Thread → Bool) (s : State) → 1 ≤ t
+    → how_many_threads_to t test s ≡ how_many_threads_to (t - 1) test s + cond (test (thread_at s (thread t))) 1 0
+unfolding how_many_threads_to
+one_thread_more zero test s h = absurd (omega arith)
+one_thread_more (suc t) test s h = let e : suc t - 1 ≡ t = omega arith in rw e
 
 -- the numbers 1 to t are among 1 to t + 1, and t + 1 is the last of these
 wider : {n t : ℕ} → Between 1 n t → Between 1 n (suc t)

@@ -4,7 +4,7 @@ use Rattle.std.proofs.Math.Logic.{by_cases}
 use Rattle.std.proofs.Common.{ap}
 use Rattle.ask.specs.Ask.{nodes_in_use, refused, status, waiting}
 use Rattle.ask.specs.Theorems.{in_use_nodes, in_use_refused, status_exactly, status_refused, waiting_lines, waiting_refused}
-use Rattle.ask.specs.declared.Asked.{Asked}
+use Rattle.ask.specs.Asked.{Asked}
 use Rattle.lock.specs.Valid.{Sized, Valid}
 use Rattle.lock.specs.declared.State.{State}
 use Rattle.number.specs.First.{First}

@@ -1,5 +1,0 @@
--- The recursion of `ask::chain_from`: the measure is the number of nodes that are left. Assumes nothing.
-use Rattle.ask.proofs.+chain_from.Given as goal
-
-abbrev pub decreases-chain_from : goal.decreases-chain_from
-decreases-chain_from l = l.left

@@ -1,0 +1,15 @@
+-- What a question gives: document 01's number and value, and those of each case of a call's answer. Assumes nothing.
+use Rattle.std.specs.Prelude.{ℕ}
+use Rattle.std.proofs.Common.{Err, Ok, Result}
+use Rattle.number.specs.Answer.{number_of}
+use Rattle.number.specs.Refused.{done}
+use Rattle.number.specs.declared.Refusal.{Refusal}
+
+pub record Asked : Type 0 where
+  pub number : ℕ
+  pub value : ℕ
+
+-- "Success is 0." "A refused question gives value 0 and no bytes"
+abbrev pub asked_of : Result ℕ Refusal → Asked
+asked_of (Ok value) = record { number = done; value = value }
+asked_of (Err r) = record { number = number_of r; value = 0 }
