@@ -1,7 +1,7 @@
 -- Where an answer is an enum: document 01's number of each of its cases. "Where an answer is an enum, a definition gives this paper's number and values for
 -- each of its cases. The promises use that definition." Assumes nothing.
-use Rattle.std.specs.Prelude.{Bool, cond, ◌≢◌, ℕ}
-use Rattle.std.proofs.Common.{Err, Ok, Result, arith}
+use Rattle.std.specs.Prelude.{Bool, cond, ◌≡◌, ◌≢◌, refl, ℕ, eqb}
+use Rattle.std.proofs.Common.{Err, Ok, Result, ap, arith, sym, ◌∙◌}
 use Rattle.number.specs.Refused.{bad_schedule, bad_size, bad_state, done, followed_empty, followed_unused, must_wait, no_entry_left, no_place_left}
 use Rattle.number.specs.Refused.{no_such_thread, node_taken, too_short, wrong_node}
 use Rattle.number.specs.declared.Refusal.{Refusal}
@@ -46,3 +46,45 @@ refused FollowedEmpty h = omega arith
 refused FollowedUnused h = omega arith
 refused NoPlaceLeft h = omega arith
 refused MustWait h = omega arith
+
+-- ---- no second case has the same number
+
+-- the refusal with this number (any, where there is none)
+abbrev refusal_of : ℕ → Refusal
+refusal_of n =
+    cond (eqb n (number_of BadState)) BadState (
+    cond (eqb n (number_of BadSchedule)) BadSchedule (
+    cond (eqb n (number_of BadSize)) BadSize (
+    cond (eqb n (number_of TooShort)) TooShort (
+    cond (eqb n (number_of NoSuchThread)) NoSuchThread (
+    cond (eqb n (number_of WrongNode)) WrongNode (
+    cond (eqb n (number_of NoEntryLeft)) NoEntryLeft (
+    cond (eqb n (number_of NodeTaken)) NodeTaken (
+    cond (eqb n (number_of FollowedEmpty)) FollowedEmpty (
+    cond (eqb n (number_of FollowedUnused)) FollowedUnused (
+    cond (eqb n (number_of NoPlaceLeft)) NoPlaceLeft (
+    MustWait)))))))))))
+
+back : (r : Refusal) → refusal_of (number_of r) ≡ r
+back BadState = refl
+back BadSchedule = refl
+back BadSize = refl
+back TooShort = refl
+back NoSuchThread = refl
+back WrongNode = refl
+back NoEntryLeft = refl
+back NodeTaken = refl
+back FollowedEmpty = refl
+back FollowedUnused = refl
+back NoPlaceLeft = refl
+back MustWait = refl
+
+pub one_refusal : (r r' : Refusal) → number_of r ≡ number_of r' → r ≡ r'
+one_refusal r r' e = sym (back r) ∙ ap refusal_of e ∙ back r'
+
+-- an answer that has nothing but its number is told by it
+pub one_answer : (r r' : Result Unit Refusal) → answer_of r ≡ answer_of r' → r ≡ r'
+one_answer (Ok _) (Ok _) e = refl
+one_answer (Ok _) (Err r) e = absurd (refused r (sym e))
+one_answer (Err r) (Ok _) e = absurd (refused r e)
+one_answer (Err r) (Err r') e = ap Err (one_refusal r r' e)
