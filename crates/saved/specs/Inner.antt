@@ -1,10 +1,19 @@
 -- What the crate's inner functions ask for and give; no call of document 01 is promised by these. Assumes nothing.
-use Rattle.std.specs.Prelude.{List, ◌++◌, ◌≡◌, ℕ, ◌≤◌, drop, length, take}
+use Rattle.std.specs.Prelude.{Bool, List, ◌++◌, ◌≡◌, ℕ, ◌≤◌, drop, length, take}
 use Rattle.lock.specs.Valid.{Valid}
 use Rattle.lock.specs.declared.State.{State}
 use Rattle.number.specs.Sizes.{most_nodes, most_threads}
-use Rattle.rows.specs.Rows.{values}
+use Rattle.rows.specs.Rows.{Kind, Lawful, letter_l, values}
 use Rattle.saved.specs.Saved.{bytes_of, node_record, size_of, thread_record}
+
+-- A kind of record has this width, is marked by L and this letter, and holds its values to this range; reading and writing undo each other.
+pub record IsRecord {A : Type 0} (width letter : ℕ) (in_range : A → Bool) (kind : Kind A) : Type 0 where
+  pub wide : kind.width ≡ width
+  pub mark₁ : kind.mark₁ ≡ letter_l
+  pub mark₂ : kind.mark₂ ≡ letter
+  pub marked : 2 ≤ width
+  pub ranged : (x : A) → kind.in_range x ≡ in_range x
+  pub lawful : Lawful kind
 
 -- There is room for the bytes of s at the start of out, and the tables of s have the nodes and the threads that it says it has.
 pub record Room (s : State) (out : List ℕ) : Type 0 where

@@ -1,26 +1,26 @@
-// Saved states: `read` and `save`. In this order: places, the record at the start of a slice, judging,
-// reading, the bytes of a record, writing. A saved state is a header, a record for each node and a record
-// for each thread, one after the other. Readers work on the record at the start of a slice, and encoders
-// give an array, so that neither knows a place: `rest` gives the part of a slice from a place on, and
-// `rows::put` stores bytes from a place on. Calls by value that work on bytes lay their state into a buffer
-// by `laid` and take it up again by `state_in`; `put_fresh` writes the fresh state with no state by value.
-// Rests on `number`, `lock` and `rows`.
+// Saved states: `read` and `save`. In this order: places, the header, the records behind it, judging,
+// reading, writing. A saved state is a header, a record for each node and a record for each thread, one
+// after the other. What reads a record works on the start of a slice, and what encodes one gives an array,
+// so that neither knows a place; judging, reading and writing are said once, for nodes and for threads
+// (`Record`). Calls by value that work on bytes lay their state into a buffer by `laid` and take it up again
+// by `state_in`; `put_fresh` writes the fresh state with no state by value. Rests on `number`, `lock` and
+// `rows`.
 #![tactic(auto)]
 
-ghost use Rattle.std.specs.Prelude.{◌*◌, ◌+◌, ◌-◌, ◌<◌, ◌≤◌, true, ◌≡◌, drop, length};
+ghost use Rattle.std.specs.Prelude.{ℕ, ◌*◌, ◌+◌, ◌++◌, ◌≤◌, true, ◌≡◌, drop, length};
 ghost use Rattle.std.proofs.lemmas.List.Edits.{sets};
-ghost use Rattle.lock.specs.Fresh.{fresh_state, in_size};
+ghost use Rattle.lock.specs.Fresh.{fresh_state, in_size, opened_of};
 ghost use Rattle.lock.specs.Valid.{valid};
-ghost use Rattle.number.specs.Sizes.{most_nodes, most_threads};
-ghost use Rattle.rows.specs.Rows.{all_good, good as good_record, letter_l, marked as marked_by, over};
-ghost use Rattle.saved.specs.Inner.{LaidIn, Room, with_nodes, with_threads};
-ghost use Rattle.saved.specs.Saved.{bytes_of, four_at, header_bytes, header_in, header_width, node_bytes, node_in};
-ghost use Rattle.saved.specs.Saved.{node_record, node_width, nodes_bytes, read as read_of, save_number, saved_good, saved_over};
-ghost use Rattle.saved.specs.Saved.{size as size_for, state_in, thread_bytes, thread_in, thread_record, thread_width, threads_bytes};
-ghost use Rattle.saved.specs.Saved.{threads_place};
+ghost use Rattle.number.specs.Answer.{answer_of};
+ghost use Rattle.rows.specs.Rows.{Kind, all_good, good as good_record, laid as laid_of, letter_l, letter_n, letter_t, marked as marked_by, over, values};
+ghost use Rattle.saved.specs.Inner.{IsRecord, LaidIn, Room};
+ghost use Rattle.saved.specs.Proof.Kinds.{node_is_record, thread_is_record};
+ghost use Rattle.saved.specs.Saved.{bytes_of, four_at, header_bytes, header_in, header_width};
+ghost use Rattle.saved.specs.Saved.{node_record, read as read_of, save_number, saved_good, saved_over};
+ghost use Rattle.saved.specs.Saved.{size as size_for, state_in, thread_record, threads_place};
 
-use lock::{Node, Opened, Shared, State, Thread};
-use number::{BAD_STATE, DONE, NodeNo, Place, TOO_SHORT};
+use lock::{Node, Ranged, Shared, State, Thread};
+use number::{NodeNo, Place, Refusal};
 
 // How many bytes each kind of record has.
 pub const HEADER_WIDTH: usize = 23;
@@ -45,18 +45,10 @@ fn threads_place(nodes: u8) -> usize
 pub fn size(threads: u8, nodes: u8) -> usize
     ensures { result ≡ size_for threads nodes }
 {
-    HEADER_WIDTH + NODE_WIDTH * (nodes as usize) + THREAD_WIDTH * (threads as usize)
+    threads_place(nodes) + THREAD_WIDTH * (threads as usize)
 }
 
-// The part of b from a place on.
-fn rest(b: &[u8], at: usize) -> &[u8]
-    requires { at ≤ length b.now }
-    ensures { (result.now ≡ drop at b.now) × (length result.now ≡ length b.now - at) }
-{
-    &b[at..]
-}
-
-// ---- what the record at the start of a slice says
+// ---- the header
 
 // The number of four bytes, the lowest first, from a place on.
 pub fn four_at(b: &[u8], at: usize) -> u32
@@ -66,194 +58,23 @@ pub fn four_at(b: &[u8], at: usize) -> u32
     u32::from_le_bytes([b[at], b[at + 1], b[at + 2], b[at + 3]])
 }
 
+// What the header at the start of b says.
 fn header_in(b: &[u8]) -> Shared
     requires { header_width ≤ length b.now }
     ensures { result ≡ header_in b.now }
 {
-    let low = four_at(b, 7);
-    let high = four_at(b, 11);
-    let entered = four_at(b, 15);
-    let used = four_at(b, 19);
     Shared {
         threads: b[2],
         nodes: b[3],
         flag: b[4],
         tail: NodeNo(b[5]),
         mess: NodeNo(b[6]),
-        low: Place(low),
-        high: Place(high),
-        entered,
-        used,
+        low: Place(four_at(b, 7)),
+        high: Place(four_at(b, 11)),
+        entered: four_at(b, 15),
+        used: four_at(b, 19),
     }
 }
-
-fn node_in(b: &[u8]) -> Node
-    requires { node_width ≤ length b.now }
-    ensures { result ≡ node_in b.now }
-{
-    Node {
-        next: NodeNo(b[2]),
-        locked: b[3],
-    }
-}
-
-fn thread_in(b: &[u8]) -> Thread
-    requires { thread_width ≤ length b.now }
-    ensures { result ≡ thread_in b.now }
-{
-    let slot = four_at(b, 7);
-    Thread {
-        line: b[2],
-        my: NodeNo(b[3]),
-        prev: NodeNo(b[4]),
-        succ: NodeNo(b[5]),
-        nxmy: NodeNo(b[6]),
-        slot: Place(slot),
-    }
-}
-
-// ---- judging
-
-// b begins with L and then this letter.
-fn marked(b: &[u8], letter: u8) -> bool
-    requires { 2 ≤ length b.now }
-    ensures { result ≡ marked_by letter_l letter b.now }
-{
-    (b[0] == b'L') & (b[1] == letter)
-}
-
-// The record at the start of b has a node's mark, and its numbers are in the ranges of K = `nodes`.
-fn node_good(b: &[u8], nodes: u8) -> bool
-    requires { node_width ≤ length b.now }
-    ensures { result ≡ good_record (node_record nodes) b.now }
-{
-    marked(b, b'N') & lock::node_in_range(nodes, node_in(b))
-}
-
-fn thread_good(b: &[u8], nodes: u8) -> bool
-    requires { thread_width ≤ length b.now }
-    ensures { result ≡ good_record (thread_record nodes) b.now }
-{
-    marked(b, b'T') & lock::thread_in_range(nodes, thread_in(b))
-}
-
-// All records of nodes are good; b begins with them.
-fn nodes_good(b: &[u8], nodes: u8) -> bool
-    requires { node_width * nodes ≤ length b.now }
-    ensures { result ≡ all_good (node_record nodes) nodes b.now }
-{
-    let n = nodes as usize;
-    let mut ok = true;
-    let mut i = 0;
-    while i < n {
-        ok = ok & node_good(rest(b, NODE_WIDTH * i), nodes);
-        i += 1;
-    }
-    ok
-}
-
-// All records of threads are good; b begins with them.
-fn threads_good(b: &[u8], nodes: u8, threads: u8) -> bool
-    requires { thread_width * threads ≤ length b.now }
-    ensures { result ≡ all_good (thread_record nodes) threads b.now }
-{
-    let n = threads as usize;
-    let mut ok = true;
-    let mut i = 0;
-    while i < n {
-        ok = ok & thread_good(rest(b, THREAD_WIDTH * i), nodes);
-        i += 1;
-    }
-    ok
-}
-
-// The bytes are a saved state: their length is exact, each record has its mark, and each number is in its
-// range.
-pub fn good(bytes: &[u8]) -> bool
-    ensures { result ≡ saved_good bytes.now }
-{
-    if bytes.len() < HEADER_WIDTH {
-        return false;
-    }
-    let sh = header_in(bytes);
-    if bytes.len() != size(sh.threads, sh.nodes) {
-        return false;
-    }
-    let nodes = rest(bytes, HEADER_WIDTH);
-    let threads = rest(bytes, threads_place(sh.nodes));
-    marked(bytes, b'H')
-        & lock::shared_valid(sh)
-        & nodes_good(nodes, sh.nodes)
-        & threads_good(threads, sh.nodes, sh.threads)
-}
-
-// ---- reading
-
-// s with the nodes that the records of b say, as many as s has.
-fn with_nodes(s: State, b: &[u8]) -> State
-    requires { (s.shared.nodes ≤ most_nodes) × (node_width * s.shared.nodes ≤ length b.now) }
-    ensures { result ≡ with_nodes s s.shared.nodes b.now }
-{
-    let mut filled = s;
-    let n = s.shared.nodes as usize;
-    let mut i = 0;
-    while i < n {
-        let v = node_in(rest(b, NODE_WIDTH * i));
-        filled.node[i] = v;
-        i += 1;
-    }
-    filled
-}
-
-// s with the threads that the records of b say, as many as s has.
-fn with_threads(s: State, b: &[u8]) -> State
-    requires { (s.shared.threads ≤ most_threads) × (thread_width * s.shared.threads ≤ length b.now) }
-    ensures { result ≡ with_threads s s.shared.threads b.now }
-{
-    let mut filled = s;
-    let n = s.shared.threads as usize;
-    let mut i = 0;
-    while i < n {
-        let v = thread_in(rest(b, THREAD_WIDTH * i));
-        filled.thread[i] = v;
-        i += 1;
-    }
-    filled
-}
-
-// The state that a good file holds; 0 in every place past T or K.
-pub fn state_in(b: &[u8]) -> State
-    requires { saved_good b.now ≡ true }
-    ensures { result ≡ state_in b.now }
-{
-    let sh = header_in(b);
-    let nodes = rest(b, HEADER_WIDTH);
-    let threads = rest(b, threads_place(sh.nodes));
-    let mut s = lock::zero_state();
-    s.shared = sh;
-    let noded = with_nodes(s, nodes);
-    with_threads(noded, threads)
-}
-
-// The state that the bytes hold: 1, and a state with 0 everywhere, if they break a rule.
-pub fn read(bytes: &[u8]) -> Opened
-    ensures { result ≡ read_of bytes.now }
-{
-    if good(bytes) {
-        let state = state_in(bytes);
-        return Opened {
-            number: DONE,
-            state,
-        };
-    }
-    let state = lock::zero_state();
-    Opened {
-        number: BAD_STATE,
-        state,
-    }
-}
-
-// ---- the bytes of a record
 
 fn header_bytes(sh: Shared) -> [u8; HEADER_WIDTH]
     ensures { result ≡ header_bytes sh }
@@ -269,50 +90,183 @@ fn header_bytes(sh: Shared) -> [u8; HEADER_WIDTH]
     ]
 }
 
-fn node_bytes(v: Node) -> [u8; NODE_WIDTH]
-    ensures { result ≡ node_bytes v }
-{
-    [b'L', b'N', v.next.0, v.locked]
+// ---- the records behind the header
+
+// A kind of record, of WIDTH bytes, behind the mark of L and LETTER.
+trait Record<const WIDTH: usize>: Ranged {
+    ghost LETTER: { ℕ };
+
+    const LETTER: u8;
+
+    // The records of this kind where there are K nodes.
+    ghost kind: { ℕ → Kind Self };
+
+    // What the record at the start of b says.
+    fn from_bytes(b: &[u8]) -> Self
+        requires { WIDTH ≤ length b.now }
+        ensures { (K : ℕ) → result ≡ (kind K).value b.now };
+
+    fn to_bytes(self) -> [u8; WIDTH]
+        ensures { (K : ℕ) → result ≡ (kind K).bytes self };
+
+    // Reading and writing undo each other.
+    ghost laws: { (K : ℕ) → IsRecord WIDTH LETTER (Self.in_range_of K) (kind K) };
 }
 
-fn thread_bytes(v: Thread) -> [u8; THREAD_WIDTH]
-    ensures { result ≡ thread_bytes v }
+impl Record<NODE_WIDTH> for Node {
+    ghost LETTER = { letter_n };
+
+    const LETTER: u8 = b'N';
+
+    ghost kind = { node_record };
+
+    fn from_bytes(b: &[u8]) -> Node {
+        Node {
+            next: NodeNo(b[2]),
+            locked: b[3],
+        }
+    }
+
+    fn to_bytes(self) -> [u8; NODE_WIDTH] {
+        [b'L', b'N', self.next.0, self.locked]
+    }
+
+    ghost laws = { node_is_record };
+}
+
+impl Record<THREAD_WIDTH> for Thread {
+    ghost LETTER = { letter_t };
+
+    const LETTER: u8 = b'T';
+
+    ghost kind = { thread_record };
+
+    fn from_bytes(b: &[u8]) -> Thread {
+        Thread {
+            line: b[2],
+            my: NodeNo(b[3]),
+            prev: NodeNo(b[4]),
+            succ: NodeNo(b[5]),
+            nxmy: NodeNo(b[6]),
+            slot: Place(four_at(b, 7)),
+        }
+    }
+
+    fn to_bytes(self) -> [u8; THREAD_WIDTH] {
+        let slot = self.slot.0.to_le_bytes();
+        [
+            b'L',
+            b'T',
+            self.line,
+            self.my.0,
+            self.prev.0,
+            self.succ.0,
+            self.nxmy.0,
+            slot[0],
+            slot[1],
+            slot[2],
+            slot[3],
+        ]
+    }
+
+    ghost laws = { thread_is_record };
+}
+
+// ---- judging
+
+// b begins with L and then this letter.
+fn marked(b: &[u8], letter: u8) -> bool
+    requires { 2 ≤ length b.now }
+    ensures { result ≡ marked_by letter_l letter b.now }
 {
-    let slot = v.slot.0.to_le_bytes();
-    [
-        b'L', b'T', v.line, v.my.0, v.prev.0, v.succ.0, v.nxmy.0, slot[0], slot[1], slot[2],
-        slot[3],
-    ]
+    (b[0] == b'L') & (b[1] == letter)
+}
+
+// The record at the start of b has its mark, and its numbers are in the ranges of K = `nodes`.
+fn is_good<const WIDTH: usize, R: Record<WIDTH>>(b: &[u8], nodes: u8) -> bool
+    requires { WIDTH ≤ length b.now }
+    ensures { result ≡ good_record (R.kind nodes) b.now }
+{
+    marked(b, R::LETTER) & R::from_bytes(b).in_range(nodes)
+}
+
+// The first `count` records of b are good.
+fn all_good<const WIDTH: usize, R: Record<WIDTH>>(b: &[u8], count: u8, nodes: u8) -> bool
+    requires { WIDTH * count ≤ length b.now }
+    ensures { result ≡ all_good (R.kind nodes) count b.now }
+{
+    for i in 0..count as usize {
+        if !is_good::<WIDTH, R>(&b[WIDTH * i..], nodes) {
+            return false;
+        }
+    }
+    true
+}
+
+// The bytes are a saved state: their length is exact, each record has its mark, and each number is in its
+// range.
+#[tactic(auto, unfolding(crate::specs::Saved::good_by))]
+pub fn good(bytes: &[u8]) -> bool
+    ensures { result ≡ saved_good bytes.now }
+{
+    if bytes.len() < HEADER_WIDTH {
+        return false;
+    }
+    let sh = header_in(bytes);
+    if bytes.len() != size(sh.threads, sh.nodes) {
+        return false;
+    }
+    marked(bytes, b'H')
+        & lock::shared_valid(sh)
+        & all_good::<NODE_WIDTH, Node>(&bytes[HEADER_WIDTH..], sh.nodes, sh.nodes)
+        & all_good::<THREAD_WIDTH, Thread>(&bytes[threads_place(sh.nodes)..], sh.threads, sh.nodes)
+}
+
+// ---- reading
+
+// In the first places of a table, as many as `count`, what the records of b say.
+fn fill<const WIDTH: usize, R: Record<WIDTH>>(table: &mut [R], count: u8, b: &[u8])
+    requires { (count ≤ length table.old) × (WIDTH * count ≤ length b.now) }
+    ensures { (K : ℕ) → table.new ≡ values (R.kind K) count b.now ++ drop count table.old }
+{
+    for i in 0..count as usize {
+        table[i] = R::from_bytes(&b[WIDTH * i..]);
+    }
+}
+
+// The state that a good file holds; 0 in every place past T or K.
+#[tactic(auto, using(crate::specs::Proof::File::header_fits))]
+pub fn state_in(b: &[u8]) -> State
+    requires { saved_good b.now ≡ true }
+    ensures { result ≡ state_in b.now }
+{
+    let shared = header_in(b);
+    let mut s = lock::zero_state();
+    s.shared = shared;
+    let behind = threads_place(shared.nodes);
+    fill(&mut s.node, shared.nodes, &b[HEADER_WIDTH..]);
+    fill(&mut s.thread, shared.threads, &b[behind..]);
+    s
+}
+
+// The state that the bytes hold: refused if they break a rule.
+#[tactic(auto, unfolding(crate::specs::Saved::read))]
+pub fn read(bytes: &[u8]) -> Result<State, Refusal>
+    ensures { opened_of result ≡ read_of bytes.now }
+{
+    number::refuse(!good(bytes), Refusal::BadState)?;
+    Ok(state_in(bytes))
 }
 
 // ---- writing
 
-// The records of the nodes of s, behind the header.
-fn put_nodes(s: State, out: &mut [u8])
-    requires { Room s out.old }
-    ensures { out.new ≡ sets out.old header_width (nodes_bytes s) }
+// The records that say what the places of a table hold, from a place of out on.
+fn put_all<const WIDTH: usize, R: Record<WIDTH>>(table: &[R], out: &mut [u8], at: usize)
+    requires { at + WIDTH * length table.now ≤ length out.old }
+    ensures { (K : ℕ) → out.new ≡ sets out.old at (laid_of (R.kind K) table.now) }
 {
-    let count = s.shared.nodes as usize;
-    let mut i = 0;
-    while i < count {
-        let r = node_bytes(s.node[i]);
-        rows::put(out, HEADER_WIDTH + NODE_WIDTH * i, &r);
-        i += 1;
-    }
-}
-
-// The records of the threads of s, behind those of the nodes.
-fn put_threads(s: State, out: &mut [u8])
-    requires { Room s out.old }
-    ensures { out.new ≡ sets out.old (threads_place s.shared.nodes) (threads_bytes s) }
-{
-    let from = threads_place(s.shared.nodes);
-    let count = s.shared.threads as usize;
-    let mut i = 0;
-    while i < count {
-        let r = thread_bytes(s.thread[i]);
-        rows::put(out, from + THREAD_WIDTH * i, &r);
-        i += 1;
+    for (i, v) in table.iter().enumerate() {
+        rows::put(out, at + WIDTH * i, &v.to_bytes());
     }
 }
 
@@ -321,23 +275,23 @@ pub fn put_state(s: State, out: &mut [u8])
     requires { Room s out.old }
     ensures { out.new ≡ over (bytes_of s) out.old }
 {
-    let header = header_bytes(s.shared);
-    rows::put(out, 0, &header);
-    put_nodes(s, out);
-    put_threads(s, out);
+    let nodes = &s.node[..s.shared.nodes as usize];
+    let threads = &s.thread[..s.shared.threads as usize];
+    rows::put(out, 0, &header_bytes(s.shared));
+    put_all(nodes, out, HEADER_WIDTH);
+    put_all(threads, out, threads_place(s.shared.nodes));
 }
 
-// The saved state of s at the start of out: 1 if s breaks a rule, then 4 if out is too short.
-pub fn save(s: State, out: &mut [u8]) -> u8
-    ensures { (result ≡ save_number s out.old) × (out.new ≡ saved_over s out.old) }
+// The saved state of s at the start of out: refused if s breaks a rule, then if out is too short.
+#[tactic(auto, using(crate::specs::Proof::Save::room), unfolding(crate::specs::Saved::save_number, crate::specs::Saved::saved_over))]
+pub fn save(s: State, out: &mut [u8]) -> Result<(), Refusal>
+    ensures { (answer_of result ≡ save_number s out.old) × (out.new ≡ saved_over s out.old) }
 {
-    let bad = !lock::valid(s);
     let short = out.len() < size(s.shared.threads, s.shared.nodes);
-    let answer = number::first(bad, BAD_STATE, number::first(short, TOO_SHORT, DONE));
-    if answer == DONE {
-        put_state(s, out);
-    }
-    answer
+    number::refuse(!lock::valid(s), Refusal::BadState)?;
+    number::refuse(short, Refusal::TooShort)?;
+    put_state(s, out);
+    Ok(())
 }
 
 // The bytes of s at the start of a buffer with room for any saved state.
@@ -356,8 +310,8 @@ pub fn put_fresh(threads: u8, nodes: u8, out: &mut [u8])
     ensures { out.new ≡ over (bytes_of (fresh_state threads nodes)) out.old }
 {
     let header = header_bytes(lock::fresh_shared(threads, nodes));
-    let node = node_bytes(lock::zero_node());
-    let thread = thread_bytes(lock::idle_thread());
+    let node = lock::zero_node().to_bytes();
+    let thread = lock::idle_thread().to_bytes();
     rows::put(out, 0, &header);
     rows::put_times(out, HEADER_WIDTH, &node, nodes);
     rows::put_times(out, threads_place(nodes), &thread, threads);

@@ -5,16 +5,17 @@ use Rattle.saved.proofs.put_fresh.Goals as goal
 
 pub returns : goal.returns
 returns c =
+    let K = c.args.nodes in
     rw (
       c.put_times-2.ensures,
       c.threads_place.ensures,
-      c.thread_bytes-thread.ensures,
+      c.to_bytes-thread.ensures K,
       c.idle_thread.ensures,
       c.put_times.ensures,
-      c.node_bytes-node.ensures,
+      c.to_bytes-node.ensures K,
       c.zero_node.ensures,
       c.put.ensures,
       c.header_bytes-header.ensures,
       c.fresh_shared.ensures,
     )
-    (stored_fresh c.args.threads c.args.nodes c.requires.0 c.args.out.now c.requires.1)
+    (stored_fresh c.args.threads K c.requires.0 c.args.out.now c.requires.1)
