@@ -4,14 +4,28 @@
 #![tactic(auto)]
 
 ghost use Rattle.std.specs.Prelude.{◌≡◌};
+ghost use Rattle.ask.specs.Asked.{asked_of};
 ghost use Rattle.board.specs.Board.{RunGives, ask_chain, ask_chain_bytes, ask_in_use, ask_status, ask_waiting, check_number, fresh_bytes, fresh_number};
 ghost use Rattle.board.specs.Board.{step_bytes, step_number};
+ghost use Rattle.number.specs.Answer.{answer_of};
 ghost use Rattle.run.specs.Run.{unread_from};
 
-use number::{BAD_SIZE, BAD_STATE, DONE, NodeNo, TOO_SHORT, ThreadNo};
+use number::{NodeNo, Refusal, ThreadNo};
 use run::Report;
 
 // ---- a saved state
+
+// 3 if T or K is not 1 to 32, and then 4 if `out` is too short.
+#[tactic(auto, unfolding(crate::specs::Board::fresh_number, crate::specs::Board::fresh_bytes))]
+fn put_fresh(threads: u8, nodes: u8, out: &mut [u8]) -> Result<(), Refusal>
+    ensures number { answer_of result ≡ fresh_number threads nodes out.old }
+    ensures bytes { out.new ≡ fresh_bytes threads nodes out.old }
+{
+    number::refuse(!lock::in_size(threads, nodes), Refusal::BadSize)?;
+    number::refuse(out.len() < saved::size(threads, nodes), Refusal::TooShort)?;
+    saved::put_fresh(threads, nodes, out);
+    Ok(())
+}
 
 // The fresh state of T threads and K nodes, saved at the start of `out`: 3 if T or K is not 1 to 32, and
 // then 4 if `out` is too short.
@@ -20,21 +34,16 @@ pub extern "C" fn sedge_fresh(threads: u8, nodes: u8, out: &mut [u8]) -> u8
     ensures number { result ≡ fresh_number threads nodes out.old }
     ensures bytes { out.new ≡ fresh_bytes threads nodes out.old }
 {
-    let bad = !lock::in_size(threads, nodes);
-    let short = out.len() < saved::size(threads, nodes);
-    let number = number::first(bad, BAD_SIZE, number::first(short, TOO_SHORT, DONE));
-    if number == DONE {
-        saved::put_fresh(threads, nodes, out);
-    }
-    number
+    number::answer_number(put_fresh(threads, nodes, out))
 }
 
 // 0 if the bytes are a saved state, and else 1.
 #[unsafe(no_mangle)]
+#[tactic(auto, unfolding(saved::specs::Saved::read))]
 pub extern "C" fn sedge_check(bytes: &[u8]) -> u8
     ensures { result ≡ check_number bytes.now }
 {
-    number::first(saved::good(bytes), DONE, BAD_STATE)
+    number::answer_number(number::refuse(!saved::good(bytes), Refusal::BadState))
 }
 
 // ---- one event, and a run
@@ -44,7 +53,7 @@ pub extern "C" fn sedge_check(bytes: &[u8]) -> u8
 pub extern "C" fn sedge_step(bytes: &mut [u8], thread: u8, node: u8) -> u8
     ensures { (result ≡ step_number bytes.old thread node) × (bytes.new ≡ step_bytes bytes.old thread node) }
 {
-    lent::step_saved(bytes, ThreadNo(thread), NodeNo(node))
+    number::answer_number(lent::step_saved(bytes, ThreadNo(thread), NodeNo(node)))
 }
 
 // The place in the schedule where the part begins that the run of this report left unread.
@@ -78,14 +87,21 @@ pub extern "C" fn sedge_run(
 
 // ---- questions
 
+// The number of a question's answer, and the value behind it; a refused question gives value 0.
+fn tell(answer: Result<u8, Refusal>, value: &mut u8) -> u8
+    ensures number { result ≡ (asked_of answer).number }
+    ensures value { value.new ≡ (asked_of answer).value }
+{
+    *value = answer.unwrap_or(0);
+    number::answer_number(answer)
+}
+
 // Status: 1 free, 2 held, 3 passing. A refused question, here and below, gives 1 and value 0.
 #[unsafe(no_mangle)]
 pub extern "C" fn sedge_status(bytes: &[u8], status: &mut u8) -> u8
     ensures { (result ≡ (ask_status bytes.now).number) × (status.new ≡ (ask_status bytes.now).value) }
 {
-    let asked = ask::status_saved(bytes);
-    *status = asked.value;
-    asked.number
+    tell(ask::status_saved(bytes).map(u8::from), status)
 }
 
 // The number of threads at line 16 or 19.
@@ -93,9 +109,7 @@ pub extern "C" fn sedge_status(bytes: &[u8], status: &mut u8) -> u8
 pub extern "C" fn sedge_waiting(bytes: &[u8], waiting: &mut u8) -> u8
     ensures { (result ≡ (ask_waiting bytes.now).number) × (waiting.new ≡ (ask_waiting bytes.now).value) }
 {
-    let asked = ask::waiting_saved(bytes);
-    *waiting = asked.value;
-    asked.number
+    tell(ask::waiting_saved(bytes), waiting)
 }
 
 // How many nodes are in use.
@@ -103,9 +117,7 @@ pub extern "C" fn sedge_waiting(bytes: &[u8], waiting: &mut u8) -> u8
 pub extern "C" fn sedge_in_use(bytes: &[u8], in_use: &mut u8) -> u8
     ensures { (result ≡ (ask_in_use bytes.now).number) × (in_use.new ≡ (ask_in_use bytes.now).value) }
 {
-    let asked = ask::in_use_saved(bytes);
-    *in_use = asked.value;
-    asked.number
+    tell(ask::in_use_saved(bytes), in_use)
 }
 
 // The chain of nodes that starts at `from`, at the start of `out`, and its length: 1, 4 and 6, the first
@@ -116,7 +128,5 @@ pub extern "C" fn sedge_chain(bytes: &[u8], from: u8, out: &mut [u8], listed: &m
     ensures value { listed.new ≡ (ask_chain bytes.now from out.old).value }
     ensures list { out.new ≡ ask_chain_bytes bytes.now from out.old }
 {
-    let asked = ask::chain_saved(bytes, NodeNo(from), out);
-    *listed = asked.value;
-    asked.number
+    tell(ask::chain_saved(bytes, NodeNo(from), out), listed)
 }
