@@ -1,7 +1,7 @@
 -- Document 01, "The state", the paragraph "Fresh", and refusal 3. Assumes nothing.
-use Rattle.std.specs.Prelude.{Bool, cond, ◌&&◌, List, ◌++◌, ℕ, ◌-◌, leb, replicate}
-use Rattle.std.proofs.Common.{Err, Ok, Result}
-use Rattle.number.specs.Answer.{number_of}
+use Rattle.std.specs.Prelude.{Bool, cond, ◌&&◌, List, ◌++◌, ◌≡◌, refl, ℕ, ◌-◌, leb, replicate}
+use Rattle.std.proofs.Common.{Err, Ok, Result, ap}
+use Rattle.number.specs.Answer.{number_of, told_apart}
 use Rattle.number.specs.Numbers.{bottom, place}
 use Rattle.number.specs.Refused.{bad_size, done}
 use Rattle.number.specs.declared.Refusal.{Refusal}
@@ -56,3 +56,7 @@ fresh T K = cond (in_size T K) (opened done (fresh_state T K)) (opened bad_size 
 abbrev pub opened_of : Result State Refusal → Opened
 opened_of (Ok s) = opened done s
 opened_of (Err r) = opened (number_of r) zero_state
+
+-- no two answers stand for the same
+pub one_opened : (r r' : Result State Refusal) → opened_of r ≡ opened_of r' → r ≡ r'
+one_opened = told_apart opened_of (λ o. o.number) (elim [ Ok s ↦ refl | Err r ↦ refl ]) (λ s s' e. ap (λ (o : Opened). o.state) e)

@@ -2,12 +2,13 @@
 -- A fresh state has one idle thread at each number up to T and 0 everywhere else, and each of these few numbers is in its range.
 -- Rests on Laws and Judged. Assumes nothing.
 use Rattle.std.specs.Prelude.{Bool, true, false, ◌≡◌, ℕ, ◌-◌}
-use Rattle.std.proofs.Common.{arith, length-append, pow_pos}
+use Rattle.std.proofs.Common.{Result, arith, length-append, pow_pos}
 use Rattle.std.proofs.lemmas.List.{length-replicate}
+use Rattle.number.specs.declared.Refusal.{Refusal}
 use Rattle.number.specs.OneResult.{only}
 use Rattle.number.specs.Refused.{bad_size, done}
 use Rattle.number.specs.Sizes.{most_nodes, most_threads}
-use Rattle.lock.specs.Fresh.{Opened, fresh, fresh_state, idle, idle_to, in_size, opened}
+use Rattle.lock.specs.Fresh.{Opened, fresh, fresh_state, idle, idle_to, in_size, one_opened, opened, opened_of}
 use Rattle.lock.specs.Judged.{size_rule}
 use Rattle.lock.specs.Laws.{nth_after_front, nth_front}
 use Rattle.lock.specs.State.{table_size, zero_node, zero_state, zero_thread}
@@ -41,6 +42,10 @@ fresh_valid T K h =
 -- No second result fits the promise of `fresh`.
 pub fresh_one_result : (T K : ℕ) (r r' : Opened) → r ≡ fresh T K → r' ≡ fresh T K → r ≡ r'
 fresh_one_result T K r r' p q = only p q
+
+-- .. and no second answer of the call stands for it.
+pub fresh_one_answer : (T K : ℕ) (r r' : Result State Refusal) → opened_of r ≡ fresh T K → opened_of r' ≡ fresh T K → r ≡ r'
+fresh_one_answer T K r r' p q = one_opened r r' (only p q)
 
 -- No second result fits the promise of `valid`.
 pub valid_one_result : (s : State) (r r' : Bool) → r ≡ valid s → r' ≡ valid s → r ≡ r'

@@ -82,9 +82,16 @@ back MustWait = refl
 pub one_refusal : (r r' : Refusal) → number_of r ≡ number_of r' → r ≡ r'
 one_refusal r r' e = sym (back r) ∙ ap refusal_of e ∙ back r'
 
+-- what an answer stands for, with its number, tells it apart from every other, if it tells values apart
+pub told_apart : {A X : Type 0} (stands_for : Result A Refusal → X) (number : X → ℕ)
+    → ((r : Result A Refusal) → number (stands_for r) ≡ answer_of r)
+    → ((a a' : A) → stands_for (Ok a) ≡ stands_for (Ok a') → a ≡ a')
+    → (r r' : Result A Refusal) → stands_for r ≡ stands_for r' → r ≡ r'
+told_apart f number numbers values (Ok a) (Ok a') e = ap Ok (values a a' e)
+told_apart f number numbers values (Ok a) (Err r) e = absurd (refused r (sym (sym (numbers (Ok a)) ∙ ap number e ∙ numbers (Err r))))
+told_apart f number numbers values (Err r) (Ok a) e = absurd (refused r (sym (numbers (Err r)) ∙ ap number e ∙ numbers (Ok a)))
+told_apart f number numbers values (Err r) (Err r') e = ap Err (one_refusal r r' (sym (numbers (Err r)) ∙ ap number e ∙ numbers (Err r')))
+
 -- an answer that has nothing but its number is told by it
 pub one_answer : (r r' : Result Unit Refusal) → answer_of r ≡ answer_of r' → r ≡ r'
-one_answer (Ok _) (Ok _) e = refl
-one_answer (Ok _) (Err r) e = absurd (refused r (sym e))
-one_answer (Err r) (Ok _) e = absurd (refused r e)
-one_answer (Err r) (Err r') e = ap Err (one_refusal r r' e)
+one_answer = told_apart answer_of (λ n. n) (λ r. refl) (λ a a' e. refl)
