@@ -1,6 +1,6 @@
 // Runs what document 01 asks to be run and not proved: "Run: a byte too many or too few, lines 10 and 30: 1." Each line of the output says
 // what was read, and the number that reading it gave. The file is P1's, written here from "Saved state"; its neighbours that must
-// be read stand beside those that must not. Rests on `saved`.
+// be read stand beside those that must not. Rests on `saved`, and on `number` for the number of an answer.
 #![tactic(auto)]
 
 use std::io;
@@ -15,8 +15,7 @@ const LINE: usize = 33;
 
 // Writes what is read, and the number that reading gives.
 fn show(rt: HostRuntime, what: &str, file: &[u8]) -> io::Result<()> {
-    let opened = saved::read(file);
-    let number = opened.number;
+    let number = number::answer_number(saved::read(file));
     println!(rt; "{what}{number}")
 }
 
