@@ -36,17 +36,14 @@ fn node_place(k: NodeNo) -> usize
     requires { 1 ≤ k.0 }
     ensures { result ≡ node_place k }
 {
-    let i = k.0;
-    HEADER_WIDTH + NODE_WIDTH * ((i - 1) as usize)
+    HEADER_WIDTH + NODE_WIDTH * (k.0 - 1) as usize
 }
 
 fn thread_place(b: &[u8], t: ThreadNo) -> usize
     requires { HasThread b.now t }
     ensures { result ≡ thread_place b.now t }
 {
-    let i = t.0;
-    let nodes = b[3];
-    HEADER_WIDTH + NODE_WIDTH * (nodes as usize) + THREAD_WIDTH * ((i - 1) as usize)
+    saved::threads_place(b[3]) + THREAD_WIDTH * (t.0 - 1) as usize
 }
 
 // ---- byte j of a record, and number i of the header's numbers of four bytes; a getter is one at a numeral

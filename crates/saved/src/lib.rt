@@ -35,7 +35,7 @@ pub const MOST_SAVED: usize = 503;
 // ---- places
 
 // Where the records of threads begin.
-fn threads_place(nodes: u8) -> usize
+pub fn threads_place(nodes: u8) -> usize
     ensures { result ≡ threads_place nodes }
 {
     HEADER_WIDTH + NODE_WIDTH * (nodes as usize)
