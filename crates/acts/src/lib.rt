@@ -26,7 +26,7 @@ pub fn choose(b: &mut [u8], row: Row, t: ThreadNo, n: NodeNo) -> Result<(), Refu
 }
 
 // 14 | prev := tail; tail := my; slot := high; high + 1
-#[tactic(auto, using(refusals::specs::Laws::clear, refusals::specs::Laws::unclear))]
+#[tactic(auto, using(refusals::specs::Laws::behind))]
 pub fn exchange(b: &mut [u8], row: Row, t: ThreadNo, n: NodeNo) -> Result<(), Refusal>
     requires { Ready b.old t }
     ensures { Gives b.old b.new (answer_of result) (λ s. exchanged row s t n) }

@@ -38,7 +38,7 @@ pub fn lock_my(b: &mut [u8], row: Row, t: ThreadNo, n: NodeNo) -> Result<(), Ref
 // 19 | waits until locked(my) is 0
 // 23 | waits until next(my) is not 0
 // 27 | the critical section
-#[tactic(auto, using(refusals::specs::Laws::clear, refusals::specs::Laws::unclear))]
+#[tactic(auto, using(refusals::specs::Laws::behind))]
 pub fn go_on(b: &mut [u8], row: Row, t: ThreadNo, n: NodeNo) -> Result<(), Refusal>
     requires { Ready b.old t × AtNode row.1 (Strict row.0) }
     ensures { Gives b.old b.new (answer_of result) (λ s. waited row s t n) }
@@ -100,7 +100,7 @@ fn free(b: &mut [u8], k: NodeNo)
 }
 
 // 29 | if succ is not 0, locked(succ) := 0, else flag := 1; low + 1
-#[tactic(auto, using(refusals::specs::Laws::clear, refusals::specs::Laws::unclear))]
+#[tactic(auto, using(refusals::specs::Laws::behind))]
 pub fn pass_on(b: &mut [u8], row: Row, t: ThreadNo, n: NodeNo) -> Result<(), Refusal>
     requires { Ready b.old t }
     ensures { Gives b.old b.new (answer_of result) (λ s. passed_on row s t n) }
