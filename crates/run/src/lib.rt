@@ -108,29 +108,25 @@ pub fn run_events(b: &mut [u8], schedule: &[u8], answers: &mut [u8]) -> Report
     ensures leaves { b.new ≡ bytes_of (ran_over (state_in b.old) schedule.now).state }
     ensures stores { answers.new ≡ over (answers_of (state_in b.old) schedule.now) answers.old }
 {
-    let mut executed = 0;
-    let mut waited = 0;
+    let mut report = Report {
+        executed: 0,
+        waited: 0,
+        stop: DONE,
+    };
     for i in 0..schedule::events_in(schedule) {
         let e = schedule::event_at(schedule, i);
         let answer = event::event(b, e.thread, e.node);
         answers[i] = answer_number(answer);
         match answer {
-            Ok(()) => executed += 1,
-            Err(Refusal::MustWait) => waited += 1,
+            Ok(()) => report.executed += 1,
+            Err(Refusal::MustWait) => report.waited += 1,
             Err(refusal) => {
-                return Report {
-                    executed,
-                    waited,
-                    stop: u8::from(refusal),
-                };
+                report.stop = u8::from(refusal);
+                return report;
             }
         }
     }
-    Report {
-        executed,
-        waited,
-        stop: DONE,
-    }
+    report
 }
 
 // The run from the state that the bytes hold, in these bytes. Refusals 1 to 4 change nothing.

@@ -3,6 +3,7 @@
 use Rattle.std.proofs.Common.{drop, take, true, ◌++◌, ◌≡◌}
 use Rattle.events.specs.Laws.{SoFar, row}
 use Rattle.machine.specs.Step.{advance}
+use Rattle.number.specs.Refused.{done}
 use Rattle.rows.specs.Rows.{Bytes}
 use Rattle.saved.specs.Saved.{saved_good, state_in}
 use Rattle.schedule.specs.Schedule.{events_of}
@@ -10,7 +11,8 @@ use Rattle.run.proofs.run_events.Given as goal
 
 abbrev pub invariant-loop-i : goal.invariant-loop-i
 invariant-loop-i l = record {
-  so_far : SoFar advance (state_in l.fn.b) (events_of l.schedule) l.i (state_in l.b) l.executed l.waited;
+  so_far : SoFar advance (state_in l.fn.b) (events_of l.schedule) l.i (state_in l.b) l.report.executed l.report.waited;
+  no_stop : l.report.stop ≡ done;
   stored : l.answers ≡ take l.i (row advance (state_in l.fn.b) (events_of l.schedule)) ++ drop l.i l.fn.answers;
   good : saved_good l.b ≡ true;
   bytes : Bytes l.b;
