@@ -1,15 +1,17 @@
 -- What the schedule reader promises: the theorems that a buyer needs, each under a plain sentence. The arguments are in Proof. Assumes nothing.
-use Rattle.std.specs.Prelude.{true, List, ◌⊎◌, ◌↔◌, ◌≡◌, ℕ, ◌+◌, ◌≤◌, ◌<◌, length, take}
+use Rattle.std.specs.Prelude.{true, Option, Result, List, ◌⊎◌, ◌↔◌, ◌≡◌, ℕ, ◌+◌, ◌≤◌, ◌<◌, length, take}
 use Rattle.std.proofs.Common.{ap, ◌∙◌, arith, take_all}
 use Rattle.std.specs.Borrow.{Bor}
 use Rattle.number.specs.OneResult.{only}
 use Rattle.number.specs.Refused.{bad_schedule, done}
+use Rattle.number.specs.declared.Refusal.{Refusal}
+use Rattle.events.specs.declared.Event.{Event}
 use Rattle.reader.specs.Proof.Reads
-use Rattle.reader.specs.Reader.{after, asked_times, events_given, gives, reader_at, started}
+use Rattle.reader.specs.Reader.{after, answered, asked_times, events_given, gives, reader_at, started}
 use Rattle.reader.specs.declared.Reader.{Reader}
 use Rattle.schedule.specs.Schedule.{GoodSchedule, NoPlace, event_at, events_in, events_of, given, good, one_event, start_of, stays}
-use Rattle.schedule.specs.Theorems.{given_end, given_event, given_refused, length_events, refused_stays}
-use Rattle.schedule.specs.Given.{Given}
+use Rattle.schedule.specs.Theorems.{given_end, given_event, given_one_answer, given_refused, length_events, refused_stays}
+use Rattle.schedule.specs.Given.{Given, given_from}
 
 -- ---- a reader of a good schedule s
 module _ (s : Bor (List ℕ)) (fine : good s.now ≡ true) where
@@ -61,3 +63,13 @@ next_one_result r g g' q q' h h' = (only h.0 h'.0, only h.1 h'.1)
 -- the promise of `next_from`
 pub next_from_one_result : (b : List ℕ) (place : ℕ) (g g' : Given) → g ≡ given b place → g' ≡ given b place → g ≡ g'
 next_from_one_result b place g g' = only
+
+-- .. and no second answer of the code fits: neither to `next` ..
+pub next_one_answer : (r : Reader) (a a' : Result (Option Event) Refusal) (q q' : Reader)
+    → (answered q.place a ≡ gives r) × (q ≡ after r) → (answered q'.place a' ≡ gives r) × (q' ≡ after r) → (a ≡ a') × (q ≡ q')
+next_one_answer = Reads.next_one_answer
+
+-- .. nor to `next_from`.
+pub next_from_one_answer : (b : List ℕ) (place : ℕ) (a a' : Result (Option (Event × ℕ)) Refusal)
+    → given_from place a ≡ given b place → given_from place a' ≡ given b place → a ≡ a'
+next_from_one_answer = given_one_answer

@@ -1,10 +1,11 @@
 -- What the promises about schedules come to, each under a plain sentence. The arguments are in Proof. Assumes nothing.
-use Rattle.std.specs.Prelude.{Bool, false, true, List, [], ◌∷◌, ◌⊎◌, ◌↔◌, ◌≡◌, ℕ, ◌+◌, ◌*◌, ◌≤◌, ◌<◌, drop, get_or, length}
+use Rattle.std.specs.Prelude.{Bool, false, true, Option, Result, List, [], ◌∷◌, ◌⊎◌, ◌↔◌, ◌≡◌, ℕ, ◌+◌, ◌*◌, ◌≤◌, ◌<◌, drop, get_or, length}
 use Rattle.events.specs.Events.{event}
 use Rattle.events.specs.declared.Event.{Event}
 use Rattle.lock.specs.Fresh.{in_size}
 use Rattle.number.specs.OneResult.{only}
 use Rattle.number.specs.Refused.{bad_schedule, done}
+use Rattle.number.specs.declared.Refusal.{Refusal}
 use Rattle.rows.specs.Rows.{Bytes, laid}
 use Rattle.schedule.specs.Proof.Events
 use Rattle.schedule.specs.Proof.Gives
@@ -12,7 +13,7 @@ use Rattle.schedule.specs.Proof.Judged
 use Rattle.schedule.specs.Proof.Round
 use Rattle.schedule.specs.Schedule.{GoodSchedule, NoPlace, Written, event_at, event_record, events_in, events_of, heading, heading_of, most_bytes, no_event}
 use Rattle.schedule.specs.Schedule.{given, good, one_event, schedule_of, sizes, start_of, stays, width}
-use Rattle.schedule.specs.Given.{Given}
+use Rattle.schedule.specs.Given.{Given, given_from}
 
 -- ---- which bytes are a schedule
 
@@ -121,3 +122,8 @@ past_the_end = Gives.past_the_end
 -- No second result fits the promise of `given_at`.
 pub given_one_result : (b : List ℕ) (place : ℕ) (r r' : Given) → r ≡ given b place → r' ≡ given b place → r ≡ r'
 given_one_result b place r r' = only
+
+-- .. and no second answer of the code does.
+pub given_one_answer : (b : List ℕ) (place : ℕ) (r r' : Result (Option (Event × ℕ)) Refusal)
+    → given_from place r ≡ given b place → given_from place r' ≡ given b place → r ≡ r'
+given_one_answer = Gives.given_one_answer

@@ -10,11 +10,15 @@ use Rattle.std.proofs.Math.Decide.{ℕ_discrete}
 use Rattle.std.proofs.Math.Seq.{drop-length, take-nil}
 use Rattle.std.specs.Borrow.{Bor}
 use Rattle.events.specs.declared.Event.{Event}
+use Rattle.number.specs.Answer.{one_refusal, refused}
+use Rattle.number.specs.OneResult.{only}
 use Rattle.number.specs.Refused.{done}
+use Rattle.number.specs.declared.Refusal.{Refusal}
+use Rattle.std.proofs.Common.{Err, None, Ok, Option, Result, Some, true≢false}
 use Rattle.schedule.specs.Schedule.{event_at, events_in, events_of, given, good, start_of, stays}
 use Rattle.schedule.specs.Theorems.{events_from, given_end, given_event, length_events, length_good}
 use Rattle.schedule.specs.Given.{Given}
-use Rattle.reader.specs.Reader.{asked_times, event_in, events_given, reader_at}
+use Rattle.reader.specs.Reader.{after, answered, asked_times, event_in, events_given, gives, reader_at}
 use Rattle.reader.specs.declared.Reader.{Reader}
 
 module _ (s : Bor (List ℕ)) (fine : good s.now ≡ true) where
@@ -56,3 +60,23 @@ module _ (s : Bor (List ℕ)) (fine : good s.now ≡ true) where
       by_cases (ℕ_discrete i many) (λ e. rw e (ap onward ends ∙ place_read n many (omega arith) ∙ ap reader (omega arith))) (λ d.
       let before : i < many = omega (arith, d, l) in
       ap onward (given_event b fine i before) ∙ place_read n (i + 1) (omega (arith, before)) ∙ ap reader (omega arith))
+
+-- ---- the code's answer
+
+-- What is given, and the place that the reader is left at, fix the answer that tells it.
+answered_lem : (place : ℕ) (a a' : Result (Option Event) Refusal) → answered place a ≡ answered place a' → a ≡ a'
+answered_lem place (Ok (Some e)) (Ok (Some e')) h = ap (λ (x : Given). Ok (Some x.event)) h
+answered_lem place (Ok (Some e)) (Ok None) h = absurd (true≢false (ap (λ (x : Given). x.found) h))
+answered_lem place (Ok (Some e)) (Err r) h = absurd (true≢false (ap (λ (x : Given). x.found) h))
+answered_lem place (Ok None) (Ok (Some e)) h = absurd (true≢false (sym (ap (λ (x : Given). x.found) h)))
+answered_lem place (Ok None) (Ok None) h = refl
+answered_lem place (Ok None) (Err r) h = absurd (refused r (sym (ap (λ (x : Given). x.number) h)))
+answered_lem place (Err r) (Ok (Some e)) h = absurd (true≢false (sym (ap (λ (x : Given). x.found) h)))
+answered_lem place (Err r) (Ok None) h = absurd (refused r (ap (λ (x : Given). x.number) h))
+answered_lem place (Err r) (Err r') h = ap Err (one_refusal r r' (ap (λ (x : Given). x.number) h))
+
+pub next_one_answer : (r : Reader) (a a' : Result (Option Event) Refusal) (q q' : Reader)
+    → (answered q.place a ≡ gives r) × (q ≡ after r) → (answered q'.place a' ≡ gives r) × (q' ≡ after r) → (a ≡ a') × (q ≡ q')
+next_one_answer r a a' q q' h h' =
+    let same : q' ≡ q = only h'.1 h.1 in
+    (answered_lem q.place a a' (only h.0 (ap (λ (x : Reader). answered x.place a') (sym same) ∙ h'.0)), sym same)

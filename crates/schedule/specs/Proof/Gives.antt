@@ -2,19 +2,22 @@
 -- three tests: that the schedule is good, that an event starts at the place, and that the place is the end. Assumes nothing.
 use Rattle.std.specs.Prelude.{Bool, cond, true, ◌&&◌, List, ◌⊎◌, ◌↔◌, ◌≡◌, refl, ℕ, ◌+◌, ◌-◌, ◌/◌, ◌%◌, ◌≤◌, ◌<◌, leb, length}
 use Rattle.std.proofs.Math.Bool.{Bool-discrete, and-false, false}
-use Rattle.std.proofs.Common.{true≢false, inl, inr, ⊎_elim, sym, ◌∙◌}
+use Rattle.std.proofs.Common.{Err, None, Ok, Option, Result, Some, true≢false, inl, inr, ⊎_elim, sym, ◌∙◌}
 use Rattle.std.proofs.Math.Logic.{by_cases}
 use Rattle.std.proofs.Math.Path.{ap}
 use native.Mathlib.Omega.{arith}
 use Rattle.std.proofs.Math.Dec.{eqb, ltb}
 use borrow.Author.Tests.{eq-eqb, eqb-false, eqb-true, le-leb, le-ltb, leb-true, lt-ltb, ltb-true, ne_eqb}
 use Rattle.events.specs.declared.Event.{Event}
+use Rattle.number.specs.Answer.{one_refusal, refused}
+use Rattle.number.specs.OneResult.{only}
 use Rattle.number.specs.Refused.{bad_schedule, done}
+use Rattle.number.specs.declared.Refusal.{Refusal}
 use Rattle.number.specs.Tests.{all_hold_lem, cannot_hold, each_holds}
 use Rattle.schedule.specs.Proof.Judged.{passed, passed_rule, rule_passed}
 use Rattle.schedule.specs.Schedule.{GoodSchedule, NoPlace, event_at, events_in, given, good, one_event}
 use Rattle.schedule.specs.Schedule.{start_of, start_tests, starts_event, stays, width}
-use Rattle.schedule.specs.Given.{Given}
+use Rattle.schedule.specs.Given.{Given, given_from}
 
 -- ---- the test of a place
 
@@ -129,3 +132,21 @@ heading_is_no_event b = no_place_lem b 0 (λ h. record { no_start = λ i l at. o
 
 pub past_the_end : (b : List ℕ) (place : ℕ) → length b < place → given b place ≡ stays bad_schedule place
 past_the_end b place l = no_place_lem b place (λ h. record { no_start = λ i m at. omega arith; no_end = λ at. omega arith })
+
+-- ---- the code's answer
+
+-- What is given fixes the answer that tells it.
+given_from_lem : (place : ℕ) (r r' : Result (Option (Event × ℕ)) Refusal) → given_from place r ≡ given_from place r' → r ≡ r'
+given_from_lem place (Ok (Some g)) (Ok (Some g')) e = ap (λ (x : Given). Ok (Some (x.event, x.place))) e
+given_from_lem place (Ok (Some g)) (Ok None) e = absurd (true≢false (ap (λ (x : Given). x.found) e))
+given_from_lem place (Ok (Some g)) (Err r) e = absurd (true≢false (ap (λ (x : Given). x.found) e))
+given_from_lem place (Ok None) (Ok (Some g)) e = absurd (true≢false (sym (ap (λ (x : Given). x.found) e)))
+given_from_lem place (Ok None) (Ok None) e = refl
+given_from_lem place (Ok None) (Err r) e = absurd (refused r (sym (ap (λ (x : Given). x.number) e)))
+given_from_lem place (Err r) (Ok (Some g)) e = absurd (true≢false (sym (ap (λ (x : Given). x.found) e)))
+given_from_lem place (Err r) (Ok None) e = absurd (refused r (ap (λ (x : Given). x.number) e))
+given_from_lem place (Err r) (Err r') e = ap Err (one_refusal r r' (ap (λ (x : Given). x.number) e))
+
+pub given_one_answer : (b : List ℕ) (place : ℕ) (r r' : Result (Option (Event × ℕ)) Refusal)
+    → given_from place r ≡ given b place → given_from place r' ≡ given b place → r ≡ r'
+given_one_answer b place r r' h h' = given_from_lem place r r' (only h h')
