@@ -1,12 +1,11 @@
-// The printing program: it reads a schedule from standard input, and writes the text of its run from fresh, or `refused 2`.
-// It only reads, calls and writes: what is written is what `text` promises. Rests on `text`.
+// The printing program: it reads a schedule from standard input, and writes the text of its run from fresh,
+// or `refused 2`. It only reads, calls and writes: what is written is what `text` promises. Rests on `text`.
 #![tactic(auto)]
 
 ghost use Rattle.std.specs.Prelude.{◌+◌, ◌≡◌, ◌≤◌, length, take};
 ghost use Rattle.schedule.specs.Schedule.{most_bytes};
 ghost use Rattle.text.specs.Text.{most_text};
 
-use number::DONE;
 use std::io::{Print, Read, Stdin};
 use text::MOST_TEXT;
 
@@ -27,8 +26,8 @@ fn text_room() -> [u8; MOST_TEXT]
     [0; MOST_TEXT]
 }
 
-// Reads until the input ends or `input` is full, in pieces of any size, and gives how many bytes it read. Where a read fails, what
-// was read before is no schedule, and it gives 0, as of an empty input.
+// Reads until the input ends or `input` is full, in pieces of any size, and gives how many bytes it read.
+// Where a read fails, what was read before is no schedule, and it gives 0, as of an empty input.
 fn read_all(source: &mut Stdin, input: &mut [u8]) -> usize
     ensures { (result ≤ length input.new) × (result ≡ length (take result input.new)) }
 {
@@ -46,25 +45,18 @@ fn read_all(source: &mut Stdin, input: &mut [u8]) -> usize
     filled
 }
 
-// Writes the text of the schedule, by way of `out`, or that it is refused. `out` has room for any text, so that this is what document
-// 01 says is printed (`prints` of crate `text`).
+// Writes the text of the schedule, by way of `out`, or that it is refused. `out` has room for any text, so
+// that this is what document 01 says is printed (`prints` of crate `text`).
 fn print(rt: HostRuntime, schedule: &[u8], out: &mut [u8]) {
-    let written = text::text(schedule, out);
-    if written.number == DONE {
-        let n = written.size;
-        write(rt, &out[..n]);
-    } else {
-        let refused = text::refused_text();
-        write(rt, &refused);
+    match text::text(schedule, out) {
+        Ok(size) => write(rt, &out[..size]),
+        Err(_) => write(rt, &text::refused_text()),
     }
 }
 
 // Writes to standard output. Where that is closed or full, the program ends quietly.
 fn write(rt: HostRuntime, bytes: &[u8]) {
-    match rt.write_all(bytes) {
-        Ok(()) => (),
-        Err(_) => (),
-    }
+    let _ = rt.write_all(bytes);
 }
 
 fn main(rt: HostRuntime) {

@@ -1,6 +1,6 @@
 -- One pass over the events of a schedule: the law of its loop. What is left of the lines, stored from the present place on, makes the lines of all events
 -- from behind the heading on; an event's turn keeps that, and where the row is over nothing is left. Rests on EventLines. Assumes nothing.
-use Rattle.std.specs.Prelude.{Bool, cond, false, true, List, [], ◌++◌, ◌≡◌, refl, ℕ, ◌+◌, ◌≤◌, ◌<◌, drop, get_or, length, take}
+use Rattle.std.specs.Prelude.{Bool, cond, false, true, List, [], ◌++◌, ◌≡◌, refl, ℕ, ◌+◌, ◌≤◌, ◌<◌, drop, get_or, length}
 use Rattle.std.proofs.Common.{ap, sym, ◌∙◌, add-one, arith, length-append, drop-cons}
 use Rattle.std.proofs.Math.Seq.{drop-length}
 use Rattle.events.specs.Row.{goes_on}
@@ -11,11 +11,10 @@ use Rattle.schedule.specs.Theorems.{few_events, length_events}
 use Rattle.machine.specs.Step.{advance}
 use Rattle.machine.specs.Stepped.{Stepped}
 use Rattle.text.specs.Decimal.{letters_from}
-use Rattle.text.specs.Inner.{Held, LineFits, LinesFit, Passed, farthest, placed}
+use Rattle.text.specs.Inner.{LineFits, LinesFit, Passed, farthest, line_room, placed}
 use Rattle.text.specs.Proof.Lines.{placed_append, placed_length, placed_none}
 use Rattle.text.proofs.EventLines.{lines_cons, lines_none, lines_within}
 use Rattle.text.specs.Text.{begin, event_line, event_lines, heading, lines_of}
-use Rattle.text.specs.declared.Line.{Line}
 
 pub heading_length : length heading ≡ 40
 unfolding letters_from
@@ -51,7 +50,7 @@ pub record Turn (b : List ℕ) (s : State) (i : ℕ) (e : Event) (r : Stepped) :
   pub gives : r ≡ advance s e.thread e.node
 
 module _ {write : Bool} {b out₀ out : List ℕ} {s : State} {place i : ℕ} (left : Left write b out₀ out s place i) {e : Event} {r : Stepped}
-    (turn : Turn b s i e r) (l : Line) (held : Held l (event_line (i + 1) s e r)) where
+    (turn : Turn b s i e r) {l : List ℕ} (made : l ≡ event_line (i + 1) s e r) where
   abbrev line : List ℕ
   line = event_line (i + 1) s e r
 
@@ -73,20 +72,20 @@ module _ {write : Bool} {b out₀ out : List ℕ} {s : State} {place i : ℕ} (l
   stored_line = sym (placed_append write out place line rest) ∙ ap (placed write out place) (sym from) ∙ left.stored
 
   -- There is room for its line wherever there is room for all.
-  pub line_fits : LinesFit write b out₀ → LineFits write l place out
-  line_fits fits = record {
-    within = held.within;
+  pub line_fits : length l ≤ line_room → LinesFit write b out₀ → LineFits write l place out
+  line_fits within fits = record {
+    within = within;
     near = omega (arith, behind_line, lines_near b fits.schedule);
-    room = λ w. omega (arith, behind_line, held.long, fits.room w, left.long);
+    room = λ w. omega (arith, behind_line, ap length made, fits.room w, left.long);
   }
 
   -- once its line is stored, where it is to be written
-  module _ (out' : List ℕ) (place' : ℕ) (after : (place' ≡ place + l.size) × (out' ≡ placed write out place (take l.size l.bytes))) where
+  module _ (out' : List ℕ) (place' : ℕ) (after : (place' ≡ place + length l) × (out' ≡ placed write out place l)) where
     now_behind : place' ≡ place + length line
-    now_behind = after.0 ∙ ap (λ (n : ℕ). place + n) held.long
+    now_behind = after.0 ∙ ap (λ (l : List ℕ). place + length l) made
 
     now_stored : out' ≡ placed write out place line
-    now_stored = after.1 ∙ ap (placed write out place) held.same
+    now_stored = after.1 ∙ ap (placed write out place) made
 
     -- it goes on
     pub goes_on_lem : goes_on r.answer ≡ true → Left write b out₀ out' r.state place' (i + 1)

@@ -1,26 +1,12 @@
 -- What the crate's inner functions ask for and give; no call of document 01 is promised by these. Assumes nothing.
-use Rattle.std.specs.Prelude.{Bool, cond, true, List, ◌≡◌, ℕ, ◌+◌, ◌*◌, ◌≤◌, length, take}
+use Rattle.std.specs.Prelude.{Bool, cond, true, List, ◌≡◌, ℕ, ◌+◌, ◌*◌, ◌≤◌, length}
 use Rattle.std.proofs.lemmas.List.Edits.{sets}
-use Rattle.saved.specs.Saved.{bytes_of}
 use Rattle.schedule.specs.Schedule.{good}
-use Rattle.text.specs.Text.{begin, heading, last_of, lines_of, text_of}
-use Rattle.text.specs.declared.Fresh.{Fresh}
-use Rattle.text.specs.declared.Line.{Line}
-
--- The state that schedule b is run from, in its bytes.
-pub record Begun (fresh : Fresh) (b : List ℕ) : Type 0 where
-  pub within : fresh.size ≤ length fresh.bytes
-  pub same : take fresh.size fresh.bytes ≡ bytes_of (begin b)
+use Rattle.text.specs.Text.{heading, last_of, lines_of, text_of}
 
 -- what no line of the text is longer than: eight numbers of at most ten digits, and a byte behind each
 abbrev pub line_room : ℕ
 line_room = 88
-
--- The line's bytes are these.
-pub record Held (line : Line) (bytes : List ℕ) : Type 0 where
-  pub within : line.size ≤ line_room
-  pub long : line.size ≡ length bytes
-  pub same : take line.size line.bytes ≡ bytes
 
 -- bytes stored from a place on, where they are to be written; else nothing is stored
 unfoldable pub placed : Bool → List ℕ → ℕ → List ℕ → List ℕ
@@ -31,10 +17,10 @@ abbrev pub farthest : ℕ
 farthest = 40 + line_room * 16_383
 
 -- There is room for a line from a place on, where it is to be written.
-pub record LineFits (write : Bool) (line : Line) (at : ℕ) (out : List ℕ) : Type 0 where
-  pub within : line.size ≤ line_room
+pub record LineFits (write : Bool) (line : List ℕ) (at : ℕ) (out : List ℕ) : Type 0 where
+  pub within : length line ≤ line_room
   pub near : at ≤ farthest
-  pub room : write ≡ true → at + line.size ≤ length out
+  pub room : write ≡ true → at + length line ≤ length out
 
 -- The schedule is good, and there is room for the lines of its events behind the heading, where they are to be written.
 pub record LinesFit (write : Bool) (b out : List ℕ) : Type 0 where
@@ -46,7 +32,8 @@ abbrev pub Passed : Bool → List ℕ → List ℕ → List ℕ → ℕ → Type
 Passed write b out₀ out place = (place ≡ length heading + length (lines_of b)) × (out ≡ placed write out₀ (length heading) (lines_of b))
 
 -- The schedule is good, the line is the last of its text, and there is room for the text.
-pub record TextFits (b : List ℕ) (line : Line) (out : List ℕ) : Type 0 where
+pub record TextFits (b line out : List ℕ) : Type 0 where
   pub schedule : good b ≡ true
-  pub last : Held line (last_of b)
+  pub last : line ≡ last_of b
+  pub within : length line ≤ line_room
   pub room : length (text_of b) ≤ length out

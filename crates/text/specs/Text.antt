@@ -17,7 +17,7 @@ use Rattle.schedule.specs.Schedule.{GoodSchedule, events_of, good, heading_of}
 use Rattle.machine.specs.Step.{advance, no_thread}
 use Rattle.machine.specs.Stepped.{Stepped}
 use Rattle.text.specs.Decimal.{decimal, letters}
-use Rattle.text.specs.declared.Written.{Written}
+use Rattle.text.specs.Written.{Written}
 
 -- ---- "with one space between fields and a line end after each line"
 abbrev pub space : ℕ

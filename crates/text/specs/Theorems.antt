@@ -22,7 +22,7 @@ use Rattle.text.specs.Proof.Shows
 use Rattle.text.specs.Shown.{answer_in, fields_of}
 use Rattle.text.specs.Text.{begin}
 use Rattle.text.specs.Text.{text, text_bytes, text_conditions, text_of, written}
-use Rattle.text.specs.declared.Written.{Written}
+use Rattle.text.specs.Written.{Written}
 
 -- ---- numbers
 module _ (n : ℕ) where

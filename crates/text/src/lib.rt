@@ -4,28 +4,23 @@
 // how long the text is, so that a buffer that is too short stays as it was, and once to write.
 #![tactic(auto)]
 
-ghost use Rattle.std.specs.Prelude.{◌+◌, ◌≤◌, cond, true, [], ◌++◌, ◌∷◌, ◌≡◌, length, take};
-ghost use Rattle.std.proofs.lemmas.List.Edits.{sets};
+ghost use Rattle.std.specs.Prelude.{◌+◌, ◌*◌, ◌++◌, ◌≤◌, cond, true, ◌≡◌, length};
+ghost use Rattle.arrayvec.specs.ArrayVec.{array_vec_len};
 ghost use Rattle.lock.specs.declared.State.{State};
 ghost use Rattle.machine.specs.Step.{stepped};
 ghost use Rattle.rows.specs.Rows.{over};
 ghost use Rattle.saved.specs.Saved.{bytes_of, saved_good, state_in};
 ghost use Rattle.schedule.specs.Schedule.{good};
 ghost use Rattle.text.specs.Decimal.{decimal};
-ghost use Rattle.text.specs.Inner.{Begun, Held, LineFits, LinesFit, Passed, TextFits, placed};
+ghost use Rattle.text.specs.Inner.{LineFits, LinesFit, Passed, TextFits, line_room, placed};
 ghost use Rattle.text.specs.Text.{begin as begin_of, event_line, last_of, line_before, line_end, numbers, space};
-ghost use Rattle.text.specs.Text.{refused_text, text as given, text_bytes, text_of, written};
+ghost use Rattle.text.specs.Text.{refused_text, text as given, text_bytes, text_of};
+ghost use Rattle.text.specs.Written.{written_of};
 
+use arrayvec::ArrayVec;
 use events::Event;
-use number::{BAD_SCHEDULE, DONE, TOO_SHORT};
+use number::{Refusal, refuse};
 use saved::MOST_SAVED;
-
-// What the call gives: 0 and how many bytes the text has, or the refusal and 0.
-#[derive(Clone, Copy)]
-pub struct Written {
-    pub number: u8,
-    pub size: usize,
-}
 
 // No text is longer.
 pub const MOST_TEXT: usize = 606_235;
@@ -39,35 +34,22 @@ const LINE_ROOM: usize = 88;
 // No schedule has more events.
 const MOST_EVENTS: usize = 16_383;
 
-// A line: the first `size` of these bytes.
-#[derive(Clone, Copy)]
-struct Line {
-    bytes: [u8; LINE_ROOM],
-    size: usize,
-}
-
-// A fresh saved state: the first `size` of these bytes.
-#[derive(Clone, Copy)]
-struct Fresh {
-    bytes: [u8; MOST_SAVED],
-    size: usize,
-}
+// A line, as far as it is made.
+type Line = ArrayVec<u8, LINE_ROOM>;
+// The bytes of a saved state.
+type Fresh = ArrayVec<u8, MOST_SAVED>;
 
 // ---- numbers
 
-// The decimal digits of n from a place on; gives the place behind them.
-fn put_number(out: &mut [u8], at: usize, n: u32) -> usize
-    requires { at + length (decimal n) ≤ length out.old }
-    ensures place { result ≡ at + length (decimal n) }
-    ensures digits { out.new ≡ sets out.old at (decimal n) }
+// The decimal digits of n, behind what the line has.
+fn push_number(line: &mut Line, n: u32)
+    requires { array_vec_len line.old + length (decimal n) ≤ line_room }
+    ensures { line.new.items ≡ line.old.items ++ decimal n }
 {
-    if n < 10 {
-        out[at] = b'0' + n as u8;
-        return at + 1;
+    if 10 <= n {
+        push_number(line, n / 10);
     }
-    let behind = put_number(out, at, n / 10);
-    out[behind] = b'0' + (n % 10) as u8;
-    behind + 1
+    line.push(b'0' + (n % 10) as u8);
 }
 
 // A space between fields, and a line end behind the last.
@@ -77,31 +59,15 @@ fn separator(more: bool) -> u8
     if more { b' ' } else { b'\n' }
 }
 
-// The digits of n and the byte behind them; gives the place behind both.
-fn put_field(out: &mut [u8], at: usize, n: u32, behind: u8) -> usize
-    requires { at + length (decimal n) + 1 ≤ length out.old }
-    ensures place { result ≡ at + length (decimal n) + 1 }
-    ensures field { out.new ≡ sets out.old at (decimal n ++ behind ∷ []) }
+// Numbers as the fields of a line, to its end.
+fn push_numbers(line: &mut Line, fields: &[u32])
+    requires { array_vec_len line.old + 11 * length fields.now ≤ line_room }
+    ensures { line.new.items ≡ line.old.items ++ numbers fields.now }
 {
-    let place = put_number(out, at, n);
-    out[place] = behind;
-    place + 1
-}
-
-// Numbers as the fields of a line, to its end; gives the place behind it.
-fn put_numbers(out: &mut [u8], at: usize, fields: &[u32]) -> usize
-    requires { at + length (numbers fields.now) ≤ length out.old }
-    ensures place { result ≡ at + length (numbers fields.now) }
-    ensures fields { out.new ≡ sets out.old at (numbers fields.now) }
-{
-    let mut place = at;
-    let mut i = 0;
-    while i < fields.len() {
-        let more = i + 1 < fields.len();
-        place = put_field(out, place, fields[i], separator(more));
-        i += 1;
+    for (i, n) in fields.iter().enumerate() {
+        push_number(line, *n);
+        line.push(separator(i + 1 < fields.len()));
     }
-    place
 }
 
 // ---- lines
@@ -120,7 +86,8 @@ fn line_before(b: &[u8], e: Event) -> u8
 // The line of event e, the n-th: its thread was at `before`, and b is the saved state after it.
 fn event_line(n: u32, e: Event, before: u8, answer: u8, b: &[u8]) -> Line
     requires { saved_good b.now ≡ true }
-    ensures { (s : State) → before ≡ line_before s e → Held result (event_line n s e (stepped answer (state_in b.now))) }
+    ensures { (s : State) → before ≡ line_before s e
+        → result.items ≡ event_line n s e (stepped answer (state_in b.now)) }
 {
     let fields = [
         n,
@@ -132,37 +99,35 @@ fn event_line(n: u32, e: Event, before: u8, answer: u8, b: &[u8]) -> Line
         cells::low(b).0,
         cells::high(b).0,
     ];
-    let mut bytes = [0u8; LINE_ROOM];
-    let size = put_numbers(&mut bytes, 0, &fields);
-    Line { bytes, size }
+    let mut line = Line::new();
+    push_numbers(&mut line, &fields);
+    line
 }
 
 // A line from a place on, where it is to be written; gives the place behind it.
-fn put_line(out: &mut [u8], at: usize, line: Line, write: bool) -> usize
-    requires { LineFits write line at out.old }
-    ensures place { result ≡ at + line.size }
-    ensures bytes { out.new ≡ placed write out.old at (take line.size line.bytes) }
+fn put_line(out: &mut [u8], at: usize, line: &[u8], write: bool) -> usize
+    requires { LineFits write line.now at out.old }
+    ensures place { result ≡ at + length line.now }
+    ensures bytes { out.new ≡ placed write out.old at line.now }
 {
-    let bytes = line.bytes;
-    let n = line.size;
     if write {
-        rows::put(out, at, &bytes[..n]);
+        rows::put(out, at, line);
     }
-    at + n
+    at + line.len()
 }
 
 // ---- the text
 
-// The state that a good schedule is run from.
+// The state that a good schedule is run from, in its bytes.
 fn begin(schedule: &[u8]) -> Fresh
     requires { good schedule.now ≡ true }
-    ensures { Begun result schedule.now }
+    ensures { result.items ≡ bytes_of (begin_of schedule.now) }
 {
     let h = schedule::heading_of(schedule);
-    let size = saved::size(h.threads, h.nodes);
-    let mut bytes = [0u8; MOST_SAVED];
-    saved::put_fresh(h.threads, h.nodes, &mut bytes);
-    Fresh { bytes, size }
+    let mut fresh = Fresh::from([0; MOST_SAVED]);
+    fresh.truncate(saved::size(h.threads, h.nodes));
+    saved::put_fresh(h.threads, h.nodes, fresh.as_mut_slice());
+    fresh
 }
 
 // One pass over the events, on the bytes of the state that they are run from: their lines from behind the
@@ -171,19 +136,16 @@ fn pass(b: &mut [u8], schedule: &[u8], out: &mut [u8], write: bool) -> usize
     requires { (b.old ≡ bytes_of (begin_of schedule.now)) × LinesFit write schedule.now out.old }
     ensures { Passed write schedule.now out.old out.new result }
 {
-    let n = schedule::events_in(schedule);
     let mut place = HEADING_LENGTH;
-    let mut i = 0;
-    while i < n {
+    for i in 0..schedule::events_in(schedule) {
         let e = schedule::event_at(schedule, i);
         let before = line_before(b, e);
         let answer = event::event(b, e.thread, e.node);
         let line = event_line((i + 1) as u32, e, before, answer, b);
-        place = put_line(out, place, line, write);
+        place = put_line(out, place, line.as_slice(), write);
         if !run::goes_on(answer) {
             return place;
         }
-        i += 1;
     }
     place
 }
@@ -193,17 +155,15 @@ fn event_lines(schedule: &[u8], out: &mut [u8], write: bool) -> usize
     requires { LinesFit write schedule.now out.old }
     ensures { Passed write schedule.now out.old out.new result }
 {
-    let fresh = begin(schedule);
-    let mut bytes = fresh.bytes;
-    let size = fresh.size;
-    pass(&mut bytes[..size], schedule, out, write)
+    let mut fresh = begin(schedule);
+    pass(fresh.as_mut_slice(), schedule, out, write)
 }
 
 // The run of a good schedule's events on the bytes of the state that they are run from, and the last line:
 // what the run reports, and what can be asked of the state that it ends in.
 fn end_line(b: &mut [u8], schedule: &[u8]) -> Line
     requires { (b.old ≡ bytes_of (begin_of schedule.now)) × (good schedule.now ≡ true) }
-    ensures { Held result (last_of schedule.now) }
+    ensures { result.items ≡ last_of schedule.now }
 {
     let mut answers = [0u8; MOST_EVENTS];
     let report = run::run_events(b, schedule, &mut answers);
@@ -211,41 +171,31 @@ fn end_line(b: &mut [u8], schedule: &[u8]) -> Line
         report.executed,
         report.waited,
         report.stop as u32,
-        ask::status_of(b) as u32,
+        u8::from(ask::status_of(b)) as u32,
         ask::waiting_of(b) as u32,
     ];
-    let mut bytes = [0u8; LINE_ROOM];
-    rows::put(&mut bytes, 0, b"end ");
-    let size = put_numbers(&mut bytes, 4, &fields);
-    Line { bytes, size }
+    let mut line = Line::try_from(&b"end "[..]).unwrap();
+    push_numbers(&mut line, &fields);
+    line
 }
 
 // The last line of a good schedule's text.
 fn last_line(schedule: &[u8]) -> Line
     requires { good schedule.now ≡ true }
-    ensures { Held result (last_of schedule.now) }
+    ensures { result.items ≡ last_of schedule.now }
 {
-    let fresh = begin(schedule);
-    let mut bytes = fresh.bytes;
-    let size = fresh.size;
-    end_line(&mut bytes[..size], schedule)
+    let mut fresh = begin(schedule);
+    end_line(fresh.as_mut_slice(), schedule)
 }
 
 // The whole text of a good schedule at the start of `out`, with its last line.
-fn put_text(schedule: &[u8], out: &mut [u8], last: Line)
-    requires { TextFits schedule.now last out.old }
+fn put_text(schedule: &[u8], out: &mut [u8], last: &[u8])
+    requires { TextFits schedule.now last.now out.old }
     ensures { out.new ≡ over (text_of schedule.now) out.old }
 {
     rows::put(out, 0, &HEADING);
     let place = event_lines(schedule, out, true);
     put_line(out, place, last, true);
-}
-
-// A refusal, and 0.
-fn refused(number: u8) -> Written
-    ensures { result ≡ written number 0 }
-{
-    Written { number, size: 0 }
 }
 
 // What is printed for an input that is no schedule.
@@ -256,19 +206,15 @@ pub fn refused_text() -> [u8; 10]
 }
 
 // The text of the schedule's run from fresh, at the start of `out`: 2 if the schedule is bad, then 4 if
-// `out` is too short.
-pub fn text(schedule: &[u8], out: &mut [u8]) -> Written
-    ensures gives { result ≡ given schedule.now out.old }
+// `out` is too short. Gives how many bytes it has.
+pub fn text(schedule: &[u8], out: &mut [u8]) -> Result<usize, Refusal>
+    ensures gives { written_of result ≡ given schedule.now out.old }
     ensures stores { out.new ≡ text_bytes schedule.now out.old }
 {
-    if !schedule::good(schedule) {
-        return refused(BAD_SCHEDULE);
-    }
+    refuse(!schedule::good(schedule), Refusal::BadSchedule)?;
     let last = last_line(schedule);
-    let size = event_lines(schedule, out, false) + last.size;
-    if out.len() < size {
-        return refused(TOO_SHORT);
-    }
-    put_text(schedule, out, last);
-    Written { number: DONE, size }
+    let size = event_lines(schedule, out, false) + last.len();
+    refuse(out.len() < size, Refusal::TooShort)?;
+    put_text(schedule, out, last.as_slice());
+    Ok(size)
 }

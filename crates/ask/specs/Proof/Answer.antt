@@ -1,6 +1,5 @@
 -- What a question gives, case by case: its value in a valid state and refusal 1 in any other; the numbers of a chain question, and what it gives and
--- writes by its number. Rests on FirstThat (crate `number`), on the rule of a state and
--- on saved states. Assumes nothing.
+-- writes by its number. Rests on FirstThat (crate `number`) and on the rule of a state. Assumes nothing.
 use Rattle.std.specs.Prelude.{false, true, List, ◌≢◌, ◌↔◌, ◌≡◌, refl, ℕ, ◌≤◌, ◌<◌, get_or, length}
 use Rattle.std.proofs.Common.{arith, le-ltb, lt-ltb, ltb-false, ne_eqb}
 use Rattle.lock.specs.Judged.{in_table, judges_outside, judges_state, rule_valid, valid_rule}

@@ -3,7 +3,7 @@ use Rattle.std.proofs.Common.{◌≡◌, ◌≤◌, List, ap, arith, length, sym
 use Rattle.std.proofs.Math.Seq.{length-take-le}
 use Rattle.text.specs.Text.{text}
 use Rattle.text.specs.Theorems.{text_within}
-use Rattle.text.specs.declared.Written.{Written}
+use Rattle.text.specs.Written.{Written}
 use Rattle.show.proofs.print.Goals as goal
 
 -- there are so many bytes in the buffer
@@ -11,8 +11,8 @@ within : (schedule out out' : List ℕ) (w : Written) → w ≡ text schedule ou
 within schedule out out' w gives long = omega (arith, ap (λ (x : Written). x.size) gives, text_within schedule out, long)
 
 pub slice_bounds-write-end : goal.slice_bounds-write-end
-slice_bounds-write-end c = within c.args.schedule.now c.args.out.now _ _ c.text-written.ensures.gives c.text-written.auto.out
+slice_bounds-write-end c = within c.args.schedule.now c.args.out.now _ _ c.in-Ok.ensures.gives c.text.auto.out
 
-pub slice_bounds-write-end-then-written-eq-DONE : goal.slice_bounds-write-end-then-written-eq-DONE
-slice_bounds-write-end-then-written-eq-DONE c =
-    sym (length-take-le _ _ (within c.args.schedule.now c.args.out.now _ _ c.text-written.ensures.gives c.text-written.auto.out))
+pub slice_bounds-write-end-in-Ok : goal.slice_bounds-write-end-in-Ok
+slice_bounds-write-end-in-Ok c =
+    sym (length-take-le _ _ (within c.args.schedule.now c.args.out.now _ _ c.in-Ok.ensures.gives c.text.auto.out))

@@ -36,24 +36,24 @@ event_line-line-requires c = (again_good _ c.loop-i.invariant.good _ _ c.event-a
 pub put_line-place-requires : goal.put_line-place-requires
 put_line-place-requires c =
     let l = c.loop-i.invariant in
-    let here = turn _ l.good c.events_in-n.ensures c.loop-i-test.true c.event_at-e.ensures c.event-answer.ensures in
-    line_fits l.left here _ (c.event_line-line.ensures _ c.line_before-before.ensures) c.requires.1
+    let here = turn _ l.good c.events_in-i-end.ensures c.loop-i-test.true c.event_at-e.ensures c.event-answer.ensures in
+    line_fits l.left here (c.as_slice.ensures.value ∙ c.event_line-line.ensures _ c.line_before-before.ensures) c.as_slice.ensures.fits c.requires.1
 
 pub returns-then-not-goes_on : goal.returns-then-not-goes_on
 returns-then-not-goes_on c =
     let l = c.loop-i.invariant in
-    let here = turn _ l.good c.events_in-n.ensures c.loop-i-test.true c.event_at-e.ensures c.event-answer.ensures in
+    let here = turn _ l.good c.events_in-i-end.ensures c.loop-i-test.true c.event_at-e.ensures c.event-answer.ensures in
     let put = c.put_line-place.ensures in
-    stops l.left here _ (c.event_line-line.ensures _ c.line_before-before.ensures) _ _ (put.place, put.bytes) (sym c.goes_on.ensures ∙ c.if-not-goes_on.true)
+    stops l.left here (c.as_slice.ensures.value ∙ c.event_line-line.ensures _ c.line_before-before.ensures) _ _ (put.place, put.bytes) (sym c.goes_on.ensures ∙ c.if-not-goes_on.true)
 
 pub loop-i-preserved : goal.loop-i-preserved
 loop-i-preserved c =
     let l = c.loop-i.invariant in
-    let here = turn _ l.good c.events_in-n.ensures c.loop-i-test.true c.event_at-e.ensures c.event-answer.ensures in
+    let here = turn _ l.good c.events_in-i-end.ensures c.loop-i-test.true c.event_at-e.ensures c.event-answer.ensures in
     let put = c.put_line-place.ensures in
     record {
       left =
-          goes_on_lem l.left here _ (c.event_line-line.ensures _ c.line_before-before.ensures) _ _ (put.place, put.bytes)
+          goes_on_lem l.left here (c.as_slice.ensures.value ∙ c.event_line-line.ensures _ c.line_before-before.ensures) _ _ (put.place, put.bytes)
           (sym c.goes_on.ensures ∙ c.if-not-goes_on.false);
       good = (again_good _ l.good _ _ c.event-answer.ensures).0;
     }

@@ -1,6 +1,5 @@
--- `text::pass`: what is left of the lines, from the present place on, makes them all (`Left`), and the bytes are a saved state. The measure is how many
--- events are left.
-use Rattle.std.proofs.Common.{true, ◌≡◌, ◌-◌}
+-- `text::pass`: what is left of the lines, from the present place on, makes them all (`Left`), and the bytes are a saved state.
+use Rattle.std.proofs.Common.{true, ◌≡◌}
 use Rattle.saved.specs.Saved.{saved_good, state_in}
 use Rattle.text.proofs.Passes.{Left}
 use Rattle.text.proofs.pass.Given as goal
@@ -10,6 +9,3 @@ invariant-loop-i l = record {
   left : Left l.write l.schedule l.fn.out l.out (state_in l.b) l.place l.i;
   good : saved_good l.b ≡ true;
 }
-
-abbrev pub decreases-loop-i : goal.decreases-loop-i
-decreases-loop-i l = l.n - l.i

@@ -23,9 +23,9 @@ put_line-requires c =
     let lines = c.event_lines-place in
     let place = lines.ensures.0 in
     record {
-      within = c.requires.last.within;
+      within = c.requires.within;
       near = omega (arith, place, lines_near b c.requires.schedule);
-      room = λ w. omega (arith, c.requires.room, text_length b, place, c.requires.last.long, lines.auto.out, c.put.auto.out);
+      room = λ w. omega (arith, c.requires.room, text_length b, place, ap length c.requires.last, lines.auto.out, c.put.auto.out);
     }
 
 pub returns : goal.returns
@@ -35,7 +35,7 @@ returns c =
     let lines = c.event_lines-place in
     let behind : ℕ = length heading + length (lines_of b) in
     c.put_line.ensures.bytes
-    ∙ ap (placed true lines.new.out lines.result) c.requires.last.same
+    ∙ ap (placed true lines.new.out lines.result) c.requires.last
     ∙ ap (λ (n : ℕ). placed true lines.new.out n (last_of b)) lines.ensures.0
     ∙ ap (λ (o : List ℕ). placed true o behind (last_of b)) lines.ensures.1
     ∙ ap (λ (o : List ℕ). placed true (placed true o (length heading) (lines_of b)) behind (last_of b)) c.put.ensures

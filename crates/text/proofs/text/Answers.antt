@@ -1,75 +1,91 @@
 -- `text::text` meets its contract. A pass that does not write leaves the buffer, and with the last line it says how long the text is; each return is one
 -- case of the call's number (Given). Assumes nothing.
-use Rattle.std.proofs.Common.{List, false, true, ◌≡◌, ℕ, ◌+◌, ◌<◌, ◌≤◌, ap, arith, length, sym, ◌∙◌}
-use Rattle.number.specs.Refused.{done, too_short}
+use Rattle.std.proofs.Common.{List, false, true, ◌≡◌, ℕ, ◌+◌, ◌≤◌, ap, arith, length, ltb, ltb-false, ltb-true, sym, ◌∙◌}
+use Rattle.number.specs.Refused.{bad_schedule, done, too_short}
 use Rattle.rows.specs.Rows.{over}
 use Rattle.schedule.specs.Schedule.{good}
-use Rattle.text.specs.Inner.{Held, Passed, placed}
+use Rattle.text.specs.Inner.{Passed, placed}
 use Rattle.text.specs.Proof.Given.{bad, fits, short, text_length}
 use Rattle.text.proofs.Passes.{lines_near}
 use Rattle.text.specs.Text.{last_of, text_bytes, text_of, written}
 use Rattle.text.specs.Text.{text as given}
-use Rattle.text.specs.declared.Line.{Line}
+use Rattle.text.specs.Written.{written_of}
 use Rattle.text.proofs.text.Goals as goal
 
 -- ---- where the schedule is bad
-pub returns-then-not-good-clause-gives : goal.returns-then-not-good-clause-gives
-returns-then-not-good-clause-gives c =
-    c.refused.ensures ∙ sym (bad c.args.schedule.now c.args.out.now (sym c.good.ensures ∙ c.if-not-good.true)).0
+pub returns-in_err-refuse-clause-gives : goal.returns-in_err-refuse-clause-gives
+returns-in_err-refuse-clause-gives c =
+    let is-bad : good c.args.schedule.now ≡ false = grind arith in
+    let number : written_of c.from_residual.result ≡ written bad_schedule 0 = grind arith in
+    number ∙ sym (bad c.args.schedule.now c.args.out.now is-bad).0
 
-pub returns-then-not-good-clause-stores : goal.returns-then-not-good-clause-stores
-returns-then-not-good-clause-stores c = sym (bad c.args.schedule.now c.args.out.now (sym c.good.ensures ∙ c.if-not-good.true)).1
+pub returns-in_err-refuse-clause-stores : goal.returns-in_err-refuse-clause-stores
+returns-in_err-refuse-clause-stores c =
+    let is-bad : good c.args.schedule.now ≡ false = grind arith in
+    sym (bad c.args.schedule.now c.args.out.now is-bad).1
 
 -- ---- where it is good, and the text is measured by a pass that does not write
 pub overflow_add-size : goal.overflow_add-size
 overflow_add-size c =
-    omega (arith, lines_near c.args.schedule.now (sym c.good.ensures ∙ c.if-not-good.false))
+    let is-good : good c.args.schedule.now ≡ true = grind arith in
+    let few : c.len.result ≤ 88 = c.len.ensures.fits in
+    omega (arith, c.event_lines.ensures.0, lines_near c.args.schedule.now is-good)
 
-module _ (b out out' : List ℕ) (place : ℕ) (last : Line) (passed : Passed false b out out' place) (held : Held last (last_of b)) where
+module _ (b out out' last : List ℕ) (place size : ℕ) (passed : Passed false b out out' place) (made : last ≡ last_of b)
+    (behind : size ≡ place + length last) (rule : good b ≡ true) where
   -- how long it is
-  measured : place + last.size ≡ length (text_of b)
-  measured = omega (arith, text_length b, passed.0, held.long)
+  measured : size ≡ length (text_of b)
+  measured = omega (arith, text_length b, passed.0, ap length made)
 
   -- and the buffer is as it was
   unchanged : out' ≡ out
   unfolding placed
   unchanged = passed.1
 
-  room : place + last.size ≤ length out' → length (text_of b) ≤ length out'
-  room h = omega (arith, h, measured)
+  where_short : ltb (length out') size ≡ true → (written too_short 0 ≡ given b out) × (out' ≡ text_bytes b out)
+  where_short h =
+      let l = short b out rule (omega (arith, ltb-true _ _ h, measured, ap length unchanged)) in
+      (sym l.0, unchanged ∙ sym l.1)
 
-  where_short : good b ≡ true → length out' < place + last.size → (given b out ≡ written too_short 0) × (text_bytes b out ≡ out')
-  where_short rule h =
-      let l = short b out rule (omega (arith, h, measured, ap length unchanged)) in
-      (l.0, l.1 ∙ sym unchanged)
+  where_long_enough : ltb (length out') size ≡ false
+      → (length (text_of b) ≤ length out') × (written done size ≡ given b out) × (over (text_of b) out' ≡ text_bytes b out)
+  where_long_enough h =
+      let l = fits b out rule (omega (arith, ltb-false _ _ h, measured, ap length unchanged)) in
+      (omega (arith, ltb-false _ _ h, measured), ap (written done) measured ∙ sym l.0, ap (over (text_of b)) unchanged ∙ sym l.1)
 
-  where_long_enough : good b ≡ true → place + last.size ≤ length out'
-      → (given b out ≡ written done (place + last.size)) × (text_bytes b out ≡ over (text_of b) out')
-  where_long_enough rule h =
-      let l = fits b out rule (omega (arith, h, measured, ap length unchanged)) in
-      (l.0 ∙ ap (written done) (sym measured), l.1 ∙ ap (over (text_of b)) (sym unchanged))
+pub returns-in_err-refuse-2-clause-gives : goal.returns-in_err-refuse-2-clause-gives
+returns-in_err-refuse-2-clause-gives c =
+    let is-good : good c.args.schedule.now ≡ true = grind arith in
+    let is-short : ltb (length c.event_lines.new.out) (c.event_lines.result + c.len.result) ≡ true = grind arith in
+    let number : written_of c.from_residual-in_err-refuse-2.result ≡ written too_short 0 = grind arith in
+    number ∙ (where_short _ _ _ _ _ _ c.event_lines.ensures c.last_line-last.ensures (ap (λ n. c.event_lines.result + n) c.len.ensures.value) is-good is-short).0
 
-pub returns-then-out-size-clause-gives : goal.returns-then-out-size-clause-gives
-returns-then-out-size-clause-gives c =
-    c.refused-then-out-size.ensures
-    ∙ sym (where_short _ _ _ _ _ c.event_lines.ensures c.last_line-last.ensures (sym c.good.ensures ∙ c.if-not-good.false) c.if-out-size.true).0
-
-pub returns-then-out-size-clause-stores : goal.returns-then-out-size-clause-stores
-returns-then-out-size-clause-stores c =
-    sym (where_short _ _ _ _ _ c.event_lines.ensures c.last_line-last.ensures (sym c.good.ensures ∙ c.if-not-good.false) c.if-out-size.true).1
+pub returns-in_err-refuse-2-clause-stores : goal.returns-in_err-refuse-2-clause-stores
+returns-in_err-refuse-2-clause-stores c =
+    let is-good : good c.args.schedule.now ≡ true = grind arith in
+    let is-short : ltb (length c.event_lines.new.out) (c.event_lines.result + c.len.result) ≡ true = grind arith in
+    (where_short _ _ _ _ _ _ c.event_lines.ensures c.last_line-last.ensures (ap (λ n. c.event_lines.result + n) c.len.ensures.value) is-good is-short).1
 
 pub put_text-requires : goal.put_text-requires
-put_text-requires c = record {
-  schedule = sym c.good.ensures ∙ c.if-not-good.false;
-  last = c.last_line-last.ensures;
-  room = room _ _ _ _ _ c.event_lines.ensures c.last_line-last.ensures c.if-out-size.false;
-}
+put_text-requires c =
+    let is-good : good c.args.schedule.now ≡ true = grind arith in
+    let is-long : ltb (length c.event_lines.new.out) (c.event_lines.result + c.len.result) ≡ false = grind arith in
+    record {
+      schedule = is-good;
+      last = c.as_slice.ensures.value ∙ c.last_line-last.ensures;
+      within = c.as_slice.ensures.fits;
+      room = (where_long_enough _ _ _ _ _ _ c.event_lines.ensures c.last_line-last.ensures (ap (λ n. c.event_lines.result + n) c.len.ensures.value) is-good is-long).0;
+    }
 
 pub returns-clause-gives : goal.returns-clause-gives
 returns-clause-gives c =
-    sym (where_long_enough _ _ _ _ _ c.event_lines.ensures c.last_line-last.ensures (sym c.good.ensures ∙ c.if-not-good.false) c.if-out-size.false).0
+    let is-good : good c.args.schedule.now ≡ true = grind arith in
+    let is-long : ltb (length c.event_lines.new.out) (c.event_lines.result + c.len.result) ≡ false = grind arith in
+    (where_long_enough _ _ _ _ _ _ c.event_lines.ensures c.last_line-last.ensures (ap (λ n. c.event_lines.result + n) c.len.ensures.value) is-good is-long).1
 
 pub returns-clause-stores : goal.returns-clause-stores
 returns-clause-stores c =
+    let is-good : good c.args.schedule.now ≡ true = grind arith in
+    let is-long : ltb (length c.event_lines.new.out) (c.event_lines.result + c.len.result) ≡ false = grind arith in
     c.put_text.ensures
-    ∙ sym (where_long_enough _ _ _ _ _ c.event_lines.ensures c.last_line-last.ensures (sym c.good.ensures ∙ c.if-not-good.false) c.if-out-size.false).1
+    ∙ (where_long_enough _ _ _ _ _ _ c.event_lines.ensures c.last_line-last.ensures (ap (λ n. c.event_lines.result + n) c.len.ensures.value) is-good is-long).2
