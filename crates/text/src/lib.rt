@@ -19,7 +19,7 @@ ghost use Rattle.text.specs.Written.{written_of};
 
 use arrayvec::ArrayVec;
 use events::Event;
-use number::{Refusal, refuse};
+use number::{Refusal, answer_number, refuse};
 use saved::MOST_SAVED;
 
 // No text is longer.
@@ -140,7 +140,7 @@ fn pass(b: &mut [u8], schedule: &[u8], out: &mut [u8], write: bool) -> usize
     for i in 0..schedule::events_in(schedule) {
         let e = schedule::event_at(schedule, i);
         let before = line_before(b, e);
-        let answer = event::event(b, e.thread, e.node);
+        let answer = answer_number(event::event(b, e.thread, e.node));
         let line = event_line((i + 1) as u32, e, before, answer, b);
         place = put_line(out, place, line.as_slice(), write);
         if !run::goes_on(answer) {

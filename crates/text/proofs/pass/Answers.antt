@@ -21,41 +21,42 @@ loop-i-init c =
 pub overflow_cast-i : goal.overflow_cast-i
 overflow_cast-i c = omega (arith, few_events c.args.schedule.now c.requires.1.schedule)
 
--- what is known of event e, the one behind the first i of n, when it is answered by r and the bytes after it are b'
-turn : (schedule : List ℕ) {b b' : List ℕ} {i n r : ℕ} {e : Event} → saved_good b ≡ true → n ≡ events_in schedule → i < n
-    → e ≡ get_or (events_of schedule) i no_event → Advanced b b' e.thread e.node r → Turn schedule (state_in b) i e (stepped r (state_in b'))
-turn schedule {b} {b'} {i} {n} {r} {e} good many inside here told = record {
+-- what is known of event e, the one behind the first i of n, when it is answered by a and the bytes after it are b'
+turn : (schedule : List ℕ) {b b' : List ℕ} {i n a r : ℕ} {e : Event} → saved_good b ≡ true → n ≡ events_in schedule → i < n
+    → e ≡ get_or (events_of schedule) i no_event → Advanced b b' e.thread e.node r → a ≡ r
+    → Turn schedule (state_in b) i e (stepped a (state_in b'))
+turn schedule {b} {b'} {i} {n} {a} {r} {e} good many inside here told same = record {
   inside = omega (arith, length_events schedule);
   here = here;
-  gives = λ j. stepped (told.answer j) ((again_good b good e.thread e.node told).1 j);
+  gives = λ j. stepped ((same ∙ told.answer) j) ((again_good b good e.thread e.node told).1 j);
 }
 
 pub event_line-line-requires : goal.event_line-line-requires
-event_line-line-requires c = (again_good _ c.loop-i.invariant.good _ _ c.event-answer.ensures).0
+event_line-line-requires c = (again_good _ c.loop-i.invariant.good _ _ c.event.ensures).0
 
 pub put_line-place-requires : goal.put_line-place-requires
 put_line-place-requires c =
     let l = c.loop-i.invariant in
-    let here = turn _ l.good c.events_in-i-end.ensures c.loop-i-test.true c.event_at-e.ensures c.event-answer.ensures in
+    let here = turn _ l.good c.events_in-i-end.ensures c.loop-i-test.true c.event_at-e.ensures c.event.ensures c.answer_number-answer.ensures in
     line_fits l.left here (c.as_slice.ensures.value ∙ c.event_line-line.ensures _ c.line_before-before.ensures) c.as_slice.ensures.fits c.requires.1
 
 pub returns-then-not-goes_on : goal.returns-then-not-goes_on
 returns-then-not-goes_on c =
     let l = c.loop-i.invariant in
-    let here = turn _ l.good c.events_in-i-end.ensures c.loop-i-test.true c.event_at-e.ensures c.event-answer.ensures in
+    let here = turn _ l.good c.events_in-i-end.ensures c.loop-i-test.true c.event_at-e.ensures c.event.ensures c.answer_number-answer.ensures in
     let put = c.put_line-place.ensures in
     stops l.left here (c.as_slice.ensures.value ∙ c.event_line-line.ensures _ c.line_before-before.ensures) _ _ (put.place, put.bytes) (sym c.goes_on.ensures ∙ c.if-not-goes_on.true)
 
 pub loop-i-preserved : goal.loop-i-preserved
 loop-i-preserved c =
     let l = c.loop-i.invariant in
-    let here = turn _ l.good c.events_in-i-end.ensures c.loop-i-test.true c.event_at-e.ensures c.event-answer.ensures in
+    let here = turn _ l.good c.events_in-i-end.ensures c.loop-i-test.true c.event_at-e.ensures c.event.ensures c.answer_number-answer.ensures in
     let put = c.put_line-place.ensures in
     record {
       left =
           goes_on_lem l.left here (c.as_slice.ensures.value ∙ c.event_line-line.ensures _ c.line_before-before.ensures) _ _ (put.place, put.bytes)
           (sym c.goes_on.ensures ∙ c.if-not-goes_on.false);
-      good = (again_good _ l.good _ _ c.event-answer.ensures).0;
+      good = (again_good _ l.good _ _ c.event.ensures).0;
     }
 
 -- behind the last event
