@@ -1,13 +1,11 @@
 -- What the code that is said once, for any kind of record, rests on: the records of nodes and those of threads are kinds of record with their widths
 -- and letters, and what a turn of each loop over records does. Rests on Records, and on the loops of `rows`. Assumes nothing.
-use Rattle.std.specs.Prelude.{Bool, false, true, List, ◌++◌, ◌≡◌, refl, ℕ, ◌+◌, ◌-◌, ◌*◌, ◌<◌, drop, get_or, length, set, take}
+use Rattle.std.specs.Prelude.{Bool, ◌&&◌, List, ◌++◌, ◌≡◌, refl, ℕ, ◌+◌, ◌-◌, ◌*◌, ◌<◌, drop, get_or, length, set, take}
 use Rattle.std.proofs.Common.{◌∙◌, add-one, ap, arith}
 use Rattle.std.proofs.lemmas.List.Edits.{sets}
 use Rattle.std.proofs.lemmas.Slice.{between_to_end}
 use Rattle.lock.specs.Valid.{node_in_range, thread_in_range}
-use Rattle.number.specs.Tests.{both_hold, cannot_hold}
 use Rattle.rows.specs.Loops.{judge_more, put_more, read_more}
-use Rattle.rows.specs.Places.{good_at}
 use Rattle.rows.specs.Rows.{Kind, all_good, good, laid, letter_n, letter_t, values}
 use Rattle.saved.specs.Inner.{IsRecord}
 use Rattle.saved.specs.Proof.Records.{node_lawful, thread_lawful}
@@ -30,13 +28,9 @@ module _ {A : Type 0} {width letter : ℕ} {in_range : A → Bool} (kind : Kind 
   there : (i : ℕ) (b : List ℕ) → from_place (width * i) b ≡ drop (kind.width * i) b
   there i b = rw (← is.wide) (from_there (kind.width * i) b)
 
-  -- One record more is good ..
-  pub good_more : (n : ℕ) (b : List ℕ) → all_good kind n b ≡ true → good kind (from_place (width * n) b) ≡ true → all_good kind (n + 1) b ≡ true
-  good_more n b h more = rw (add-one n, ← judge_more kind n b) (both_hold h (rw (there n b) at more))
-
-  -- .. or they are not all good.
-  pub not_all : (i n : ℕ) (b : List ℕ) → i < n → good kind (from_place (width * i) b) ≡ false → all_good kind n b ≡ false
-  not_all i n b l bad = cannot_hold (all_good kind n b) (λ h. let here = good_at kind n i b h l in let bad' = rw (there i b) at bad in cc)
+  -- One record more is judged.
+  pub judged_more : (n : ℕ) (b : List ℕ) → (all_good kind n b && good kind (from_place (width * n) b)) ≡ all_good kind (n + 1) b
+  judged_more n b = rw (add-one n, there n b) (judge_more kind n b)
 
   -- One place more is filled.
   pub filled_more : (n : ℕ) (b : List ℕ) (xs ys : List A) (x : A) → n < length xs → ys ≡ values kind n b ++ drop n xs
