@@ -1,6 +1,6 @@
 // Records of one width, laid end to end, as saved states and schedules have them: definitions and laws are
-// in specs/. The only code is `put`, by which all bytes of records are stored in a lent buffer, and
-// `put_times`, which stores copies of one record by it.
+// in specs/. The only code is `put`, by which records are stored in a lent buffer, and `put_times`, which
+// stores copies of one record by it.
 #![tactic(auto)]
 
 ghost use Rattle.std.specs.Prelude.{◌*◌, ◌+◌, ◌≤◌, ◌≡◌, length};

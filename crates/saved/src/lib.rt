@@ -92,7 +92,7 @@ fn header_bytes(sh: Shared) -> [u8; HEADER_WIDTH]
 
 // ---- the records behind the header
 
-// A kind of record, of WIDTH bytes, behind the mark of L and LETTER.
+// A kind of record: WIDTH bytes, which begin with the mark of L and LETTER.
 trait Record<const WIDTH: usize>: Ranged {
     ghost LETTER: { ℕ };
 
