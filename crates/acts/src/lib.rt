@@ -1,7 +1,8 @@
 // What the lines do that follow no node, in place on the bytes of a saved state: one function for each thing
-// that is done, in the order of the lines. It gives the first refusal that stops the line and changes nothing,
-// or stores only what document 01 says that the line changes, and goes on to the follow-on line of its row.
-// (The lines that follow a node are crate `follows`.) Rests on `refusals`, and on `cells` for the bytes.
+// that is done, in the order of the lines. It gives the first refusal that stops the line and changes
+// nothing, or stores only what document 01 says that the line changes, and goes on to the follow-on line of
+// its row. (The lines that follow a node are crate `follows`.) Rests on `refusals`, and on `cells` for the
+// bytes.
 #![tactic(auto)]
 
 ghost use Rattle.number.specs.Answer.{answer_of};

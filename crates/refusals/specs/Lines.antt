@@ -3,14 +3,14 @@
 use Rattle.std.specs.Prelude.{IfOk, cond, List, ◌≡◌, ℕ}
 use Rattle.std.proofs.Common.{Result}
 use Rattle.cells.specs.Cells.{HasThread, Held, Shows}
-use Rattle.figure.specs.Figure.{◌⟪flag≔◌⟫, ◌⟪line◌≔◌⟫, ◌⟪locked◌≔◌⟫, ◌⟪tail≔◌⟫, flag, high, low, my, prev, succ, tail}
+use Rattle.figure.specs.Figure.{◌⟪flag≔◌⟫, ◌⟪line◌≔◌⟫, ◌⟪locked◌≔◌⟫, ◌⟪tail≔◌⟫, high, low, my, prev, succ, tail}
 use Rattle.lines.specs.declared.Follow.{Follow}
 use Rattle.lines.specs.declared.Row.{Row}
-use Rattle.lock.specs.State.{node_at, thread_at}
+use Rattle.lock.specs.State.{thread_at}
 use Rattle.lock.specs.Valid.{Valid}
 use Rattle.lock.specs.declared.State.{State}
 use Rattle.machine.specs.Acts.{choose, clear_next, exchange, followed_by, link_prev, lower_flag, pass_on, read_next, release, send_mess, set_locked, take_mess}
-use Rattle.machine.specs.Refusals.{follows_empty, must_stay, wait_number}
+use Rattle.machine.specs.Refusals.{follows_empty}
 use Rattle.machine.specs.Step.{stop_or}
 use Rattle.machine.specs.Stepped.{Stepped}
 use Rattle.number.specs.Answer.{answer_of}
@@ -19,7 +19,7 @@ use Rattle.number.specs.Refused.{done}
 use Rattle.number.specs.declared.NodeNo.{NodeNo}
 use Rattle.number.specs.declared.Refusal.{Refusal}
 use Rattle.number.specs.declared.ThreadNo.{ThreadNo}
-use Rattle.refusals.specs.Stops.{choose_stop, place_stop, stop_by}
+use Rattle.refusals.specs.Stops.{choose_stop, place_stop, stop_by, wait_stop}
 
 -- ---- the lines
 module _ (row : Row) (s : State) (t : ThreadNo) (n : NodeNo) where
@@ -61,7 +61,7 @@ module _ (row : Row) (s : State) (t : ThreadNo) (n : NodeNo) where
 
   -- 16, 19, 23 and 27
   abbrev pub waited : Stepped
-  waited = goes (stops (cond (must_stay row.1 (flag s) (node_at s follows)) (wait_number row.1) done)) s
+  waited = goes (stops (wait_stop row.1 s follows)) s
 
   -- 17
   abbrev pub flag_lowered : Stepped

@@ -1,12 +1,13 @@
 -- The numbers that stop an event, in document 01's order, as the code asks for them: some of the refusals of Refusals (crate `machine`), with those that a line
 -- cannot meet left out. At a line's own row they are the line's refusal, by computation (crate `event`). Assumes nothing.
 use Rattle.std.specs.Prelude.{cond, not, ◌||◌, [], ◌∷◌, ℕ, leb, ltb}
-use Rattle.figure.specs.Figure.{entered, local}
+use Rattle.figure.specs.Figure.{entered, flag, local}
 use Rattle.lines.specs.declared.Follow.{Follow}
 use Rattle.lines.specs.declared.Wait.{Wait}
 use Rattle.lines.specs.declared.Wait.TheVariants.{ForFlag, ForLink, ForUnlock, NoWait}
+use Rattle.lock.specs.State.{node_at}
 use Rattle.lock.specs.declared.State.{State}
-use Rattle.machine.specs.Refusals.{follows_empty, follows_unused}
+use Rattle.machine.specs.Refusals.{follows_empty, follows_unused, must_stay, wait_number}
 use Rattle.number.specs.Numbers.{is_bottom}
 use Rattle.number.specs.Refused.{◌if◌, done, first_of, followed_empty, followed_unused, no_entry_left, no_place_left, node_taken, wrong_node}
 use Rattle.number.specs.Sizes.{last_place, most_entries}
@@ -32,6 +33,10 @@ choose_stop s n =
 -- 11, of a line that counts up to the place behind p
 abbrev pub place_stop : Place → ℕ
 place_stop p = cond (leb last_place p.0) no_place_left done
+
+-- 12, of a line that waits and follows node k
+abbrev pub wait_stop : Wait → State → NodeNo → ℕ
+wait_stop w s k = cond (must_stay w (flag s) (node_at s k)) (wait_number w) done
 
 -- X, of a line that waits for a number of its node
 abbrev pub AtNode : Wait → Type 0 → Type 0

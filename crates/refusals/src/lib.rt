@@ -4,16 +4,16 @@
 // for the rows and on `cells` for the bytes.
 #![tactic(auto)]
 
-ghost use Rattle.std.specs.Prelude.{cond, ◌≡◌};
+ghost use Rattle.std.specs.Prelude.{◌≡◌};
 ghost use Rattle.cells.specs.Cells.{HasNode, HasThread, Laid, Shows};
-ghost use Rattle.figure.specs.Figure.{flag as flag_of, local as local_of};
-ghost use Rattle.lock.specs.State.{node_at, thread_at};
+ghost use Rattle.figure.specs.Figure.{local as local_of};
+ghost use Rattle.lock.specs.State.{thread_at};
 ghost use Rattle.machine.specs.Acts.{followed_by};
-ghost use Rattle.machine.specs.Refusals.{follows_empty, follows_unused, must_stay, wait_number};
+ghost use Rattle.machine.specs.Refusals.{follows_empty, follows_unused};
 ghost use Rattle.number.specs.Answer.{answer_of};
 ghost use Rattle.number.specs.Refused.{done};
-ghost use Rattle.refusals.specs.Lines.{Followed, Ready};
-ghost use Rattle.refusals.specs.Stops.{AtNode, choose_stop, place_stop, stop_by};
+ghost use Rattle.refusals.specs.Lines.{Followed};
+ghost use Rattle.refusals.specs.Stops.{AtNode, choose_stop, place_stop, stop_by, wait_stop};
 
 use lines::{Follow, Row, Wait};
 use number::{LAST_PLACE, MOST_ENTRIES, NodeNo, Place, Refusal, ThreadNo};
@@ -65,7 +65,7 @@ pub fn follow_stop(b: &[u8], follow: Follow, k: NodeNo, n: NodeNo) -> Result<(),
 
 // The node that thread t's line follows, where none of 6, 9 and 10 stops the event.
 pub fn follow(b: &[u8], row: Row, t: ThreadNo, n: NodeNo) -> Result<NodeNo, Refusal>
-    requires { Ready b.now t }
+    requires { HasThread b.now t }
     ensures { Followed b.now row t n result }
 {
     let k = followed(b, row.0, t);
@@ -94,7 +94,7 @@ pub fn place_stop(p: Place) -> Result<(), Refusal>
 // follows.
 pub fn wait_stop(b: &[u8], wait: Wait, k: NodeNo) -> Result<(), Refusal>
     requires { Laid b.now × AtNode wait (HasNode b.now k) }
-    ensures { Shows b.now (answer_of result) (λ s. cond (must_stay wait (flag_of s) (node_at s k)) (wait_number wait) done) }
+    ensures { Shows b.now (answer_of result) (λ s. wait_stop wait s k) }
 {
     let must_wait = match wait {
         Wait::NoWait => false,
