@@ -3,7 +3,7 @@
 // `schedule`, `saved` and `event`, and in specs/ on `events` and `rows`.
 #![tactic(auto)]
 
-ghost use Rattle.std.specs.Prelude.{◌≤◌, true, ◌≡◌, length};
+ghost use Rattle.std.specs.Prelude.{IfOk, ◌≤◌, true, ◌≡◌, length};
 ghost use Rattle.events.specs.Row.{goes_on, waits as is_wait};
 ghost use Rattle.number.specs.Answer.{answer_of, number_of};
 ghost use Rattle.number.specs.Refused.{first_of};
@@ -12,11 +12,11 @@ ghost use Rattle.run.specs.Run.{answers_of, onward, ran_over, refusal as refusal
 ghost use Rattle.run.specs.Run.{run_bytes, schedule_refusals, unread as unread_of, unread_from};
 ghost use Rattle.run.specs.Saved.{run_left};
 ghost use Rattle.saved.specs.Saved.{bytes_of, read, saved_good, state_in};
-ghost use Rattle.schedule.specs.Schedule.{events_in, good};
+ghost use Rattle.schedule.specs.Schedule.{events_in};
 
 use lock::State;
 use number::{DONE, Refusal, answer_number, refuse};
-use schedule::{Heading, WIDTH};
+use schedule::{Heading, Schedule, WIDTH};
 
 // Events executed, events waited, and the stopping number, or 0. It is a number and no `Refusal`, since
 // `unread` takes any report that its caller makes.
@@ -36,39 +36,47 @@ pub struct Ran {
 
 // ---- refusals 1 to 4
 
-// The first of 2 to 4 that applies to a state of this size, in this order. Each test can be made of any
-// bytes.
-fn schedule_refusal(size: Heading, schedule: &[u8], room: usize) -> Result<(), Refusal>
-    ensures { answer_of result ≡ first_of (schedule_refusals size.threads size.nodes schedule.now room) }
+// The schedule, judged, or the first of 2 to 4 that applies to its run from a state of this size, with so
+// much room for its answers.
+fn judged<'a>(size: Heading, schedule: &'a [u8], room: usize) -> Result<Schedule<'a>, Refusal>
+    ensures refusal { answer_of result ≡ first_of (schedule_refusals size.threads size.nodes schedule.now room) }
+    ensures same { IfOk result (λ judged. judged.bytes ≡ schedule.entry) }
 {
-    refuse(!schedule::good(schedule), Refusal::BadSchedule)?;
-    refuse(schedule::heading_of(schedule) != size, Refusal::BadSize)?;
-    refuse(room < schedule::events_in(schedule), Refusal::TooShort)
+    let judged = Schedule::judge(schedule)?;
+    refuse(judged.heading() != size, Refusal::BadSize)?;
+    refuse(room < judged.len(), Refusal::TooShort)?;
+    Ok(judged)
 }
 
-// The first of 1 to 4 that applies to a run from s.
+// The schedule, or the first of 1 to 4 that applies to a run from s.
 #[tactic(auto, unfolding(crate::specs::Run::refusal))]
-fn refusal(s: State, schedule: &[u8], room: usize) -> Result<(), Refusal>
-    ensures { answer_of result ≡ refusal_of s schedule.now room }
+fn judged_with<'a>(s: State, schedule: &'a [u8], room: usize) -> Result<Schedule<'a>, Refusal>
+    ensures refusal { answer_of result ≡ refusal_of s schedule.now room }
+    ensures same { IfOk result (λ judged. judged.bytes ≡ schedule.entry) }
 {
     refuse(!lock::valid(s), Refusal::BadState)?;
     let size = Heading {
         threads: s.shared.threads,
         nodes: s.shared.nodes,
     };
-    schedule_refusal(size, schedule, room)
+    judged(size, schedule, room)
 }
 
-// The first of 1 to 4 that applies to a run from the state that the bytes hold.
-fn refusal_saved(bytes: &[u8], schedule: &[u8], room: usize) -> Result<(), Refusal>
-    ensures { answer_of result ≡ refusal_of (read bytes.now).state schedule.now room }
+// The schedule, or the first of 1 to 4 that applies to a run from the state that the bytes hold.
+fn judged_with_saved<'a>(
+    bytes: &[u8],
+    schedule: &'a [u8],
+    room: usize,
+) -> Result<Schedule<'a>, Refusal>
+    ensures refusal { answer_of result ≡ refusal_of (read bytes.now).state schedule.now room }
+    ensures same { IfOk result (λ judged. judged.bytes ≡ schedule.entry) }
 {
     refuse(!saved::good(bytes), Refusal::BadState)?;
     let size = Heading {
         threads: cells::threads(bytes),
         nodes: cells::nodes(bytes),
     };
-    schedule_refusal(size, schedule, room)
+    judged(size, schedule, room)
 }
 
 // ---- the report
@@ -102,19 +110,19 @@ fn refused(refusal: Refusal) -> Report
 
 // The events of a good schedule, on the bytes of a saved state that was judged before, with room for each
 // answer. Each is executed in the bytes where they stand.
-pub fn run_events(b: &mut [u8], schedule: &[u8], answers: &mut [u8]) -> Report
-    requires { (saved_good b.old ≡ true) × (good schedule.now ≡ true) × (events_in schedule.now ≤ length answers.old) }
-    ensures gives { result ≡ (ran_over (state_in b.old) schedule.now).report }
-    ensures leaves { b.new ≡ bytes_of (ran_over (state_in b.old) schedule.now).state }
-    ensures stores { answers.new ≡ over (answers_of (state_in b.old) schedule.now) answers.old }
+pub fn run_events(b: &mut [u8], schedule: Schedule, answers: &mut [u8]) -> Report
+    requires { (saved_good b.old ≡ true) × (events_in schedule.bytes.now ≤ length answers.old) }
+    ensures gives { result ≡ (ran_over (state_in b.old) schedule.entry.bytes.now).report }
+    ensures leaves { b.new ≡ bytes_of (ran_over (state_in b.old) schedule.entry.bytes.now).state }
+    ensures stores { answers.new ≡ over (answers_of (state_in b.old) schedule.entry.bytes.now) answers.old }
 {
     let mut report = Report {
         executed: 0,
         waited: 0,
         stop: DONE,
     };
-    for i in 0..schedule::events_in(schedule) {
-        let e = schedule::event_at(schedule, i);
+    for i in 0..schedule.len() {
+        let e = schedule.event(i);
         let answer = event::event(b, e.thread, e.node);
         answers[i] = answer_number(answer);
         match answer {
@@ -135,17 +143,17 @@ pub fn run_saved(bytes: &mut [u8], schedule: &[u8], answers: &mut [u8]) -> Repor
     ensures leaves { bytes.new ≡ run_left bytes.old schedule.now answers.old }
     ensures stores { answers.new ≡ run_bytes (read bytes.old).state schedule.now answers.old }
 {
-    match refusal_saved(bytes, schedule, answers.len()) {
-        Ok(()) => run_events(bytes, schedule, answers),
+    match judged_with_saved(bytes, schedule, answers.len()) {
+        Ok(schedule) => run_events(bytes, schedule, answers),
         Err(refusal) => refused(refusal),
     }
 }
 
 // The events, and the state that they end in, taken up from the bytes.
-fn run_laid(b: &mut [u8], schedule: &[u8], answers: &mut [u8]) -> Ran
-    requires { (saved_good b.old ≡ true) × (good schedule.now ≡ true) × (events_in schedule.now ≤ length answers.old) }
-    ensures gives { result ≡ ran_over (state_in b.old) schedule.now }
-    ensures stores { answers.new ≡ over (answers_of (state_in b.old) schedule.now) answers.old }
+fn run_laid(b: &mut [u8], schedule: Schedule, answers: &mut [u8]) -> Ran
+    requires { (saved_good b.old ≡ true) × (events_in schedule.bytes.now ≤ length answers.old) }
+    ensures gives { result ≡ ran_over (state_in b.old) schedule.entry.bytes.now }
+    ensures stores { answers.new ≡ over (answers_of (state_in b.old) schedule.entry.bytes.now) answers.old }
 {
     let report = run_events(b, schedule, answers);
     let state = saved::state_in(b);
@@ -158,8 +166,8 @@ pub fn run(s: State, schedule: &[u8], answers: &mut [u8]) -> Ran
     ensures gives { result ≡ run_of s schedule.now answers.old }
     ensures stores { answers.new ≡ run_bytes s schedule.now answers.old }
 {
-    match refusal(s, schedule, answers.len()) {
-        Ok(()) => {
+    match judged_with(s, schedule, answers.len()) {
+        Ok(schedule) => {
             let mut bytes = saved::laid(s);
             let long = saved::size(s.shared.threads, s.shared.nodes);
             run_laid(&mut bytes[..long], schedule, answers)

@@ -1,15 +1,17 @@
-// Schedules: which bytes are one, and what stands at a place of one. `good` and `given_at` take any bytes
-// and judge them; the other calls are total too, and are for a run, which judges its schedule once and then
-// reads one event after the other. Rests on `number`, `lock` and `events`, and in specs/ on `rows`.
+// Schedules: which bytes are one, and what stands at a place of one. The functions take any bytes, and
+// `good`, `given_at` and `Schedule::judge` judge them; a `Schedule` was judged, and is for a run, which reads
+// one event after the other. Rests on `number`, `lock` and `events`, and in specs/ on `rows`.
 #![tactic(auto)]
 
-ghost use Rattle.std.specs.Prelude.{◌≤◌, ◌≡◌, get_or, length};
+ghost use Rattle.std.specs.Prelude.{IfOk, cond, true, ◌≤◌, ◌≡◌, get_or, length};
+ghost use Rattle.number.specs.Answer.{answer_of};
+ghost use Rattle.number.specs.Refused.{bad_schedule, done};
 ghost use Rattle.schedule.specs.Given.{given_from};
 ghost use Rattle.schedule.specs.Schedule.{event_at, events_good, events_in, given, good as good_of};
 ghost use Rattle.schedule.specs.Schedule.{heading_good, heading_of, starts_event, width};
 
 use events::Event;
-use number::{NodeNo, Refusal, ThreadNo};
+use number::{NodeNo, Refusal, ThreadNo, refuse};
 
 // A heading and an event have four bytes each.
 pub const WIDTH: usize = 4;
@@ -99,6 +101,45 @@ pub fn good(schedule: &[u8]) -> bool
         && events_good(schedule)
 }
 
+// A schedule that was judged: a run reads it event by event, and judges nothing again.
+#[derive(Clone, Copy)]
+pub struct Schedule<'a> {
+    pub bytes: &'a [u8],
+    pub ghost judged: { good_of bytes.now ≡ true },
+}
+
+impl<'a> Schedule<'a> {
+    // The schedule that these bytes are; refusal 2 where they are none.
+    pub fn judge(bytes: &'a [u8]) -> Result<Schedule<'a>, Refusal>
+        ensures judged { answer_of result ≡ cond (good_of bytes.now) done bad_schedule }
+        ensures same { IfOk result (λ schedule. schedule.bytes ≡ bytes.entry) }
+    {
+        refuse(!good(bytes), Refusal::BadSchedule)?;
+        Ok(Schedule { bytes })
+    }
+
+    // T and K.
+    pub fn heading(self) -> Heading
+        ensures { result ≡ heading_of self.entry.bytes.now }
+    {
+        heading_of(self.bytes)
+    }
+
+    // How many events it has.
+    pub fn len(self) -> usize
+        ensures { result ≡ events_in self.entry.bytes.now }
+    {
+        events_in(self.bytes)
+    }
+
+    // Event i, counted from 0; zeros where there is no such event.
+    pub fn event(self, i: usize) -> Event
+        ensures { result ≡ event_at self.entry.bytes.now i }
+    {
+        event_at(self.bytes, i)
+    }
+}
+
 // ---- what stands at a place
 
 // The place is an event's start: behind the heading, a whole number of events on, and before the end.
@@ -114,15 +155,11 @@ fn starts_event(schedule: &[u8], place: usize) -> bool
 pub fn given_at(schedule: &[u8], place: usize) -> Result<Option<(Event, usize)>, Refusal>
     ensures { given_from place result ≡ given schedule.now place }
 {
-    if !good(schedule) {
-        return Err(Refusal::BadSchedule);
-    }
+    let judged = Schedule::judge(schedule)?;
     if starts_event(schedule, place) {
-        let event = event_at(schedule, (place - WIDTH) / WIDTH);
+        let event = judged.event((place - WIDTH) / WIDTH);
         return Ok(Some((event, place + WIDTH)));
     }
-    if place == schedule.len() {
-        return Ok(None);
-    }
-    Err(Refusal::BadSchedule)
+    refuse(place != schedule.len(), Refusal::BadSchedule)?;
+    Ok(None)
 }

@@ -8,20 +8,20 @@ use Rattle.saved.specs.Proof.Held.{bytes_good}
 use Rattle.run.proofs.run.Goals as goal
 
 pub laid-bytes-requires : goal.laid-bytes-requires
-laid-bytes-requires c = (passed c.args.s c.args.schedule.now _ (sym c.refusal.ensures ∙ ap answer_of c.in-Ok.is)).state
+laid-bytes-requires c = (passed c.args.s c.args.schedule.now _ (sym c.judged_with.ensures.refusal ∙ ap answer_of c.in-Ok.is)).state
 
 pub run_laid-requires : goal.run_laid-requires
 run_laid-requires c =
-    let p = passed c.args.s c.args.schedule.now _ (sym c.refusal.ensures ∙ ap answer_of c.in-Ok.is) in
+    let p = passed c.args.s c.args.schedule.now _ (sym c.judged_with.ensures.refusal ∙ ap answer_of c.in-Ok.is) in
     let lent = bytes_good _ _ c.laid-bytes.ensures.rule c.laid-bytes.ensures.bytes in
-    (rw c.size-long.ensures lent.0, p.schedule, p.answers)
+    (rw c.size-long.ensures lent.0, rw c.in-Ok.ensures.same p.answers)
 
 pub returns-in-Ok : goal.returns-in-Ok
 unfolding run run_bytes
 returns-in-Ok c =
     let lent = rw (← c.size-long.ensures) at (bytes_good _ _ c.laid-bytes.ensures.rule c.laid-bytes.ensures.bytes) in
-    rw (sym c.refusal.ensures ∙ ap answer_of c.in-Ok.is, ← lent.1) c.run_laid.ensures
+    rw (sym c.judged_with.ensures.refusal ∙ ap answer_of c.in-Ok.is, ← lent.1, ← c.in-Ok.ensures.same) c.run_laid.ensures
 
 pub returns-in-Err : goal.returns-in-Err
 unfolding run run_bytes
-returns-in-Err c = rw (c.refused.ensures, sym c.refusal.ensures ∙ ap answer_of c.in-Err.is, ne_eqb _ _ (refused c.in-Err.refusal)) record { gives = refl; stores = refl }
+returns-in-Err c = rw (c.refused.ensures, sym c.judged_with.ensures.refusal ∙ ap answer_of c.in-Err.is, ne_eqb _ _ (refused c.in-Err.refusal)) record { gives = refl; stores = refl }

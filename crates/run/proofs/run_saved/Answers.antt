@@ -18,20 +18,20 @@ good b schedule room p = by_test (saved_good b) refl
 pub run_events-requires : goal.run_events-requires
 run_events-requires c =
     let a = c.args in
-    let p = passed (read a.bytes.now).state a.schedule.now (length a.answers.now) (sym c.refusal_saved.ensures ∙ ap answer_of c.in-Ok.is) in
-    (good a.bytes.now _ _ p, p.schedule, p.answers)
+    let p = passed (read a.bytes.now).state a.schedule.now (length a.answers.now) (sym c.judged_with_saved.ensures.refusal ∙ ap answer_of c.in-Ok.is) in
+    (good a.bytes.now _ _ p, rw c.in-Ok.ensures.same p.answers)
 
 pub returns-in-Ok : goal.returns-in-Ok
 returns-in-Ok c =
     let a = c.args in
-    let none = sym c.refusal_saved.ensures ∙ ap answer_of c.in-Ok.is in
+    let none = sym c.judged_with_saved.ensures.refusal ∙ ap answer_of c.in-Ok.is in
     let p = passed (read a.bytes.now).state a.schedule.now (length a.answers.now) none in
     let to = accepted_run a.bytes.now a.schedule.now a.answers.now none in
-    let same = rw (← good_state a.bytes.now (good a.bytes.now _ _ p)) at c.run_events.ensures in
+    let same = rw (← good_state a.bytes.now (good a.bytes.now _ _ p), c.in-Ok.ensures.same) at c.run_events.ensures in
     record { reports = same.gives ∙ to.0; leaves = same.leaves ∙ to.1; stores = same.stores ∙ to.2 }
 
 pub returns-in-Err : goal.returns-in-Err
 returns-in-Err c =
     let a = c.args in
-    let to = refused_run a.bytes.now a.schedule.now a.answers.now (sym (ap answer_of c.in-Err.is) ∙ c.refusal_saved.ensures) (no_done c.in-Err.refusal) in
+    let to = refused_run a.bytes.now a.schedule.now a.answers.now (sym (ap answer_of c.in-Err.is) ∙ c.judged_with_saved.ensures.refusal) (no_done c.in-Err.refusal) in
     record { reports = c.refused.ensures ∙ to.0; leaves = to.1; stores = to.2 }
