@@ -4,20 +4,19 @@
 // how long the text is, so that a buffer that is too short stays as it was, and once to write.
 #![tactic(auto)]
 
-ghost use Rattle.std.specs.Prelude.{◌+◌, ◌*◌, ◌++◌, ◌≤◌, cond, true, ◌≡◌, length};
-ghost use Rattle.arrayvec.specs.ArrayVec.{array_vec_len};
+ghost use Rattle.std.specs.Prelude.{◌+◌, ◌≤◌, cond, true, [], ◌++◌, ◌∷◌, ◌≡◌, length, take};
+ghost use Rattle.std.proofs.lemmas.List.Edits.{sets};
 ghost use Rattle.lock.specs.declared.State.{State};
 ghost use Rattle.machine.specs.Step.{stepped};
 ghost use Rattle.rows.specs.Rows.{over};
 ghost use Rattle.saved.specs.Saved.{bytes_of, saved_good, state_in};
 ghost use Rattle.schedule.specs.Schedule.{good};
 ghost use Rattle.text.specs.Decimal.{decimal};
-ghost use Rattle.text.specs.Inner.{LineFits, LinesFit, Passed, TextFits, line_room, placed};
+ghost use Rattle.text.specs.Inner.{LineFits, LinesFit, Passed, TextFits, placed};
 ghost use Rattle.text.specs.Text.{begin as begin_of, event_line, last_of, line_before, line_end, numbers, space};
 ghost use Rattle.text.specs.Text.{refused_text, text as given, text_bytes, text_of};
 ghost use Rattle.text.specs.Written.{written_of};
 
-use arrayvec::ArrayVec;
 use events::Event;
 use number::{Refusal, answer_number, refuse};
 use saved::MOST_SAVED;
@@ -34,22 +33,38 @@ const LINE_ROOM: usize = 88;
 // No schedule has more events.
 const MOST_EVENTS: usize = 16_383;
 
-// A line, as far as it is made.
-type Line = ArrayVec<u8, LINE_ROOM>;
-// The bytes of a saved state.
-type Fresh = ArrayVec<u8, MOST_SAVED>;
+// Bytes in a buffer with room for N: the first `size` of it.
+#[derive(Clone, Copy)]
+struct Buffer<const N: usize> {
+    bytes: [u8; N],
+    size: usize,
+    ghost within: { size ≤ N },
+}
+
+impl<const N: usize> Buffer<N> {
+    fn part(&self) -> &[u8]
+        ensures value { result.now ≡ take self.now.size self.now.bytes }
+        ensures fits { length result.now ≤ N }
+    {
+        &self.bytes[..self.size]
+    }
+}
 
 // ---- numbers
 
-// The decimal digits of n, behind what the line has.
-fn push_number(line: &mut Line, n: u32)
-    requires { array_vec_len line.old + length (decimal n) ≤ line_room }
-    ensures { line.new.items ≡ line.old.items ++ decimal n }
+// The decimal digits of n from a place on; gives the place behind them.
+fn put_number(out: &mut [u8], at: usize, n: u32) -> usize
+    requires { at + length (decimal n) ≤ length out.old }
+    ensures place { result ≡ at + length (decimal n) }
+    ensures digits { out.new ≡ sets out.old at (decimal n) }
 {
-    if 10 <= n {
-        push_number(line, n / 10);
+    if n < 10 {
+        out[at] = b'0' + n as u8;
+        return at + 1;
     }
-    line.push(b'0' + (n % 10) as u8);
+    let behind = put_number(out, at, n / 10);
+    out[behind] = b'0' + (n % 10) as u8;
+    behind + 1
 }
 
 // A space between fields, and a line end behind the last.
@@ -59,15 +74,28 @@ fn separator(more: bool) -> u8
     if more { b' ' } else { b'\n' }
 }
 
-// Numbers as the fields of a line, to its end.
-fn push_numbers(line: &mut Line, fields: &[u32])
-    requires { array_vec_len line.old + 11 * length fields.now ≤ line_room }
-    ensures { line.new.items ≡ line.old.items ++ numbers fields.now }
+// The digits of n and the byte behind them; gives the place behind both.
+fn put_field(out: &mut [u8], at: usize, n: u32, behind: u8) -> usize
+    requires { at + length (decimal n) + 1 ≤ length out.old }
+    ensures place { result ≡ at + length (decimal n) + 1 }
+    ensures field { out.new ≡ sets out.old at (decimal n ++ behind ∷ []) }
 {
+    let place = put_number(out, at, n);
+    out[place] = behind;
+    place + 1
+}
+
+// Numbers as the fields of a line, to its end; gives the place behind it.
+fn put_numbers(out: &mut [u8], at: usize, fields: &[u32]) -> usize
+    requires { at + length (numbers fields.now) ≤ length out.old }
+    ensures place { result ≡ at + length (numbers fields.now) }
+    ensures fields { out.new ≡ sets out.old at (numbers fields.now) }
+{
+    let mut place = at;
     for (i, n) in fields.iter().enumerate() {
-        push_number(line, *n);
-        line.push(separator(i + 1 < fields.len()));
+        place = put_field(out, place, *n, separator(i + 1 < fields.len()));
     }
+    place
 }
 
 // ---- lines
@@ -84,10 +112,10 @@ fn line_before(b: &[u8], e: Event) -> u8
 }
 
 // The line of event e, the n-th: its thread was at `before`, and b is the saved state after it.
-fn event_line(n: u32, e: Event, before: u8, answer: u8, b: &[u8]) -> Line
+fn event_line(n: u32, e: Event, before: u8, answer: u8, b: &[u8]) -> Buffer<LINE_ROOM>
     requires { saved_good b.now ≡ true }
     ensures { (s : State) → before ≡ line_before s e
-        → result.items ≡ event_line n s e (stepped answer (state_in b.now)) }
+        → take result.size result.bytes ≡ event_line n s e (stepped answer (state_in b.now)) }
 {
     let fields = [
         n,
@@ -99,9 +127,9 @@ fn event_line(n: u32, e: Event, before: u8, answer: u8, b: &[u8]) -> Line
         cells::low(b).0,
         cells::high(b).0,
     ];
-    let mut line = Line::new();
-    push_numbers(&mut line, &fields);
-    line
+    let mut bytes = [0; LINE_ROOM];
+    let size = put_numbers(&mut bytes, 0, &fields);
+    Buffer { bytes, size }
 }
 
 // A line from a place on, where it is to be written; gives the place behind it.
@@ -119,15 +147,15 @@ fn put_line(out: &mut [u8], at: usize, line: &[u8], write: bool) -> usize
 // ---- the text
 
 // The state that a good schedule is run from, in its bytes.
-fn begin(schedule: &[u8]) -> Fresh
+fn begin(schedule: &[u8]) -> Buffer<MOST_SAVED>
     requires { good schedule.now ≡ true }
-    ensures { result.items ≡ bytes_of (begin_of schedule.now) }
+    ensures { take result.size result.bytes ≡ bytes_of (begin_of schedule.now) }
 {
     let h = schedule::heading_of(schedule);
-    let mut fresh = Fresh::from([0; MOST_SAVED]);
-    fresh.truncate(saved::size(h.threads, h.nodes));
-    saved::put_fresh(h.threads, h.nodes, fresh.as_mut_slice());
-    fresh
+    let size = saved::size(h.threads, h.nodes);
+    let mut bytes = [0; MOST_SAVED];
+    saved::put_fresh(h.threads, h.nodes, &mut bytes);
+    Buffer { bytes, size }
 }
 
 // One pass over the events, on the bytes of the state that they are run from: their lines from behind the
@@ -142,7 +170,7 @@ fn pass(b: &mut [u8], schedule: &[u8], out: &mut [u8], write: bool) -> usize
         let before = line_before(b, e);
         let answer = answer_number(event::event(b, e.thread, e.node));
         let line = event_line((i + 1) as u32, e, before, answer, b);
-        place = put_line(out, place, line.as_slice(), write);
+        place = put_line(out, place, line.part(), write);
         if !run::goes_on(answer) {
             return place;
         }
@@ -156,14 +184,15 @@ fn event_lines(schedule: &[u8], out: &mut [u8], write: bool) -> usize
     ensures { Passed write schedule.now out.old out.new result }
 {
     let mut fresh = begin(schedule);
-    pass(fresh.as_mut_slice(), schedule, out, write)
+    let size = fresh.size;
+    pass(&mut fresh.bytes[..size], schedule, out, write)
 }
 
 // The run of a good schedule's events on the bytes of the state that they are run from, and the last line:
 // what the run reports, and what can be asked of the state that it ends in.
-fn end_line(b: &mut [u8], schedule: &[u8]) -> Line
+fn end_line(b: &mut [u8], schedule: &[u8]) -> Buffer<LINE_ROOM>
     requires { (b.old ≡ bytes_of (begin_of schedule.now)) × (good schedule.now ≡ true) }
-    ensures { result.items ≡ last_of schedule.now }
+    ensures { take result.size result.bytes ≡ last_of schedule.now }
 {
     let mut answers = [0u8; MOST_EVENTS];
     let report = run::run_events(b, schedule, &mut answers);
@@ -174,18 +203,20 @@ fn end_line(b: &mut [u8], schedule: &[u8]) -> Line
         u8::from(ask::status_of(b)) as u32,
         ask::waiting_of(b) as u32,
     ];
-    let mut line = Line::try_from(&b"end "[..]).unwrap();
-    push_numbers(&mut line, &fields);
-    line
+    let mut bytes = [0; LINE_ROOM];
+    rows::put(&mut bytes, 0, b"end ");
+    let size = put_numbers(&mut bytes, 4, &fields);
+    Buffer { bytes, size }
 }
 
 // The last line of a good schedule's text.
-fn last_line(schedule: &[u8]) -> Line
+fn last_line(schedule: &[u8]) -> Buffer<LINE_ROOM>
     requires { good schedule.now ≡ true }
-    ensures { result.items ≡ last_of schedule.now }
+    ensures { take result.size result.bytes ≡ last_of schedule.now }
 {
     let mut fresh = begin(schedule);
-    end_line(fresh.as_mut_slice(), schedule)
+    let size = fresh.size;
+    end_line(&mut fresh.bytes[..size], schedule)
 }
 
 // The whole text of a good schedule at the start of `out`, with its last line.
@@ -213,8 +244,9 @@ pub fn text(schedule: &[u8], out: &mut [u8]) -> Result<usize, Refusal>
 {
     refuse(!schedule::good(schedule), Refusal::BadSchedule)?;
     let last = last_line(schedule);
-    let size = event_lines(schedule, out, false) + last.len();
+    let line = last.part();
+    let size = event_lines(schedule, out, false) + line.len();
     refuse(out.len() < size, Refusal::TooShort)?;
-    put_text(schedule, out, last.as_slice());
+    put_text(schedule, out, line);
     Ok(size)
 }

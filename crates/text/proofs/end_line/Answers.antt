@@ -1,10 +1,11 @@
--- `text::end_line` meets its contract. The run leaves a saved state, that of the state that it ends in (Begun). The word and the space stand first, and the
--- numbers behind them. Assumes nothing.
-use Rattle.std.proofs.Common.{[], ◌∷◌, ◌≡◌, ◌∙◌}
+-- `text::end_line` meets its contract. The run leaves a saved state, that of the state that it ends in (Begun). The word and the space are stored first, and
+-- the numbers behind them. Rests on Lines. Assumes nothing.
+use Rattle.std.proofs.Common.{List, [], ◌∷◌, ◌++◌, ℕ, arith, ◌∙◌}
 use Rattle.schedule.specs.Theorems.{few_events}
-use Rattle.text.specs.Decimal.{letters_from}
+use Rattle.text.specs.Decimal.{letters, letters_from}
 use Rattle.text.specs.Proof.Begun.{end_fields_lem, end_good, first_good}
-use Rattle.text.specs.Text.{end_line}
+use Rattle.text.specs.Proof.Lines.{made, numbers_fit}
+use Rattle.text.specs.Text.{end_line, space}
 use Rattle.text.proofs.end_line.Goals as goal
 
 pub run_events-report-requires : goal.run_events-report-requires
@@ -19,10 +20,20 @@ status_of-requires c = (end_good _ c.requires.1 c.requires.0 c.run_events-report
 pub waiting_of-requires : goal.waiting_of-requires
 waiting_of-requires c = (end_good _ c.requires.1 c.requires.0 c.run_events-report.ensures.leaves).0
 
+pub put_numbers-size-requires : goal.put_numbers-size-requires
+put_numbers-size-requires c = numbers_fit _ _ _ (omega (arith, c.put.auto.out))
+
+-- the word and the space
+abbrev word : List ℕ
+word = letters "end" ++ space ∷ []
+
+pub invariant_of-result : goal.invariant_of-result
+invariant_of-result c = record { within = rw c.put_numbers-size.ensures.place (numbers_fit _ _ _ (omega arith)) }
+
 pub returns : goal.returns
 unfolding end_line letters_from
 returns c =
+    let put = c.put_numbers-size.ensures in
     let ran = c.run_events-report.ensures in
-    let word : c.unwrap-line.result.items ≡ 101 ∷ 110 ∷ 100 ∷ 32 ∷ [] = (rw c.unwrap-line.ensures at c.try_from.ensures).0 in
-    let fields = end_fields_lem _ c.requires.1 c.requires.0 ran.leaves ran.gives (c.from.ensures ∙ c.status_of.ensures) c.waiting_of.ensures in
-    rw (c.push_numbers.ensures, word, fields)
+    made word _ (omega arith) c.put.ensures put.place put.fields
+    (end_fields_lem _ c.requires.1 c.requires.0 ran.leaves ran.gives (c.from.ensures ∙ c.status_of.ensures) c.waiting_of.ensures)

@@ -38,14 +38,14 @@ pub put_line-place-requires : goal.put_line-place-requires
 put_line-place-requires c =
     let l = c.loop-i.invariant in
     let here = turn _ l.good c.events_in-i-end.ensures c.loop-i-test.true c.event_at-e.ensures c.event.ensures c.answer_number-answer.ensures in
-    line_fits l.left here (c.as_slice.ensures.value ∙ c.event_line-line.ensures _ c.line_before-before.ensures) c.as_slice.ensures.fits c.requires.1
+    line_fits l.left here (c.part.ensures.value ∙ c.event_line-line.ensures _ c.line_before-before.ensures) c.part.ensures.fits c.requires.1
 
 pub returns-then-not-goes_on : goal.returns-then-not-goes_on
 returns-then-not-goes_on c =
     let l = c.loop-i.invariant in
     let here = turn _ l.good c.events_in-i-end.ensures c.loop-i-test.true c.event_at-e.ensures c.event.ensures c.answer_number-answer.ensures in
     let put = c.put_line-place.ensures in
-    stops l.left here (c.as_slice.ensures.value ∙ c.event_line-line.ensures _ c.line_before-before.ensures) _ _ (put.place, put.bytes) (sym c.goes_on.ensures ∙ c.if-not-goes_on.true)
+    stops l.left here (c.part.ensures.value ∙ c.event_line-line.ensures _ c.line_before-before.ensures) _ _ (put.place, put.bytes) (sym c.goes_on.ensures ∙ c.if-not-goes_on.true)
 
 pub loop-i-preserved : goal.loop-i-preserved
 loop-i-preserved c =
@@ -54,7 +54,7 @@ loop-i-preserved c =
     let put = c.put_line-place.ensures in
     record {
       left =
-          goes_on_lem l.left here (c.as_slice.ensures.value ∙ c.event_line-line.ensures _ c.line_before-before.ensures) _ _ (put.place, put.bytes)
+          goes_on_lem l.left here (c.part.ensures.value ∙ c.event_line-line.ensures _ c.line_before-before.ensures) _ _ (put.place, put.bytes)
           (sym c.goes_on.ensures ∙ c.if-not-goes_on.false);
       good = (again_good _ l.good _ _ c.event.ensures).0;
     }

@@ -28,13 +28,12 @@ returns-in_err-refuse-clause-stores c =
 pub overflow_add-size : goal.overflow_add-size
 overflow_add-size c =
     let is-good : good c.args.schedule.now ≡ true = grind arith in
-    let few : c.len.result ≤ 88 = c.len.ensures.fits in
-    omega (arith, c.event_lines.ensures.0, lines_near c.args.schedule.now is-good)
+    omega (arith, c.event_lines.ensures.0, lines_near c.args.schedule.now is-good, c.part-line.ensures.fits)
 
-module _ (b out out' last : List ℕ) (place size : ℕ) (passed : Passed false b out out' place) (made : last ≡ last_of b)
-    (behind : size ≡ place + length last) (rule : good b ≡ true) where
+module _ (b out out' last : List ℕ) (place : ℕ) (passed : Passed false b out out' place) (made : last ≡ last_of b)
+    (rule : good b ≡ true) where
   -- how long it is
-  measured : size ≡ length (text_of b)
+  measured : place + length last ≡ length (text_of b)
   measured = omega (arith, text_length b, passed.0, ap length made)
 
   -- and the buffer is as it was
@@ -42,13 +41,13 @@ module _ (b out out' last : List ℕ) (place size : ℕ) (passed : Passed false 
   unfolding placed
   unchanged = passed.1
 
-  where_short : ltb (length out') size ≡ true → (written too_short 0 ≡ given b out) × (out' ≡ text_bytes b out)
+  where_short : ltb (length out') (place + length last) ≡ true → (written too_short 0 ≡ given b out) × (out' ≡ text_bytes b out)
   where_short h =
       let l = short b out rule (omega (arith, ltb-true _ _ h, measured, ap length unchanged)) in
       (sym l.0, unchanged ∙ sym l.1)
 
-  where_long_enough : ltb (length out') size ≡ false
-      → (length (text_of b) ≤ length out') × (written done size ≡ given b out) × (over (text_of b) out' ≡ text_bytes b out)
+  where_long_enough : ltb (length out') (place + length last) ≡ false
+      → (length (text_of b) ≤ length out') × (written done (place + length last) ≡ given b out) × (over (text_of b) out' ≡ text_bytes b out)
   where_long_enough h =
       let l = fits b out rule (omega (arith, ltb-false _ _ h, measured, ap length unchanged)) in
       (omega (arith, ltb-false _ _ h, measured), ap (written done) measured ∙ sym l.0, ap (over (text_of b)) unchanged ∙ sym l.1)
@@ -56,36 +55,36 @@ module _ (b out out' last : List ℕ) (place size : ℕ) (passed : Passed false 
 pub returns-in_err-refuse-2-clause-gives : goal.returns-in_err-refuse-2-clause-gives
 returns-in_err-refuse-2-clause-gives c =
     let is-good : good c.args.schedule.now ≡ true = grind arith in
-    let is-short : ltb (length c.event_lines.new.out) (c.event_lines.result + c.len.result) ≡ true = grind arith in
+    let is-short : ltb (length c.event_lines.new.out) (c.event_lines.result + length c.part-line.result.now) ≡ true = grind arith in
     let number : written_of c.from_residual-in_err-refuse-2.result ≡ written too_short 0 = grind arith in
-    number ∙ (where_short _ _ _ _ _ _ c.event_lines.ensures c.last_line-last.ensures (ap (λ n. c.event_lines.result + n) c.len.ensures.value) is-good is-short).0
+    number ∙ (where_short _ _ _ _ _ c.event_lines.ensures (c.part-line.ensures.value ∙ c.last_line-last.ensures) is-good is-short).0
 
 pub returns-in_err-refuse-2-clause-stores : goal.returns-in_err-refuse-2-clause-stores
 returns-in_err-refuse-2-clause-stores c =
     let is-good : good c.args.schedule.now ≡ true = grind arith in
-    let is-short : ltb (length c.event_lines.new.out) (c.event_lines.result + c.len.result) ≡ true = grind arith in
-    (where_short _ _ _ _ _ _ c.event_lines.ensures c.last_line-last.ensures (ap (λ n. c.event_lines.result + n) c.len.ensures.value) is-good is-short).1
+    let is-short : ltb (length c.event_lines.new.out) (c.event_lines.result + length c.part-line.result.now) ≡ true = grind arith in
+    (where_short _ _ _ _ _ c.event_lines.ensures (c.part-line.ensures.value ∙ c.last_line-last.ensures) is-good is-short).1
 
 pub put_text-requires : goal.put_text-requires
 put_text-requires c =
     let is-good : good c.args.schedule.now ≡ true = grind arith in
-    let is-long : ltb (length c.event_lines.new.out) (c.event_lines.result + c.len.result) ≡ false = grind arith in
+    let is-long : ltb (length c.event_lines.new.out) (c.event_lines.result + length c.part-line.result.now) ≡ false = grind arith in
     record {
       schedule = is-good;
-      last = c.as_slice.ensures.value ∙ c.last_line-last.ensures;
-      within = c.as_slice.ensures.fits;
-      room = (where_long_enough _ _ _ _ _ _ c.event_lines.ensures c.last_line-last.ensures (ap (λ n. c.event_lines.result + n) c.len.ensures.value) is-good is-long).0;
+      last = c.part-line.ensures.value ∙ c.last_line-last.ensures;
+      within = c.part-line.ensures.fits;
+      room = (where_long_enough _ _ _ _ _ c.event_lines.ensures (c.part-line.ensures.value ∙ c.last_line-last.ensures) is-good is-long).0;
     }
 
 pub returns-clause-gives : goal.returns-clause-gives
 returns-clause-gives c =
     let is-good : good c.args.schedule.now ≡ true = grind arith in
-    let is-long : ltb (length c.event_lines.new.out) (c.event_lines.result + c.len.result) ≡ false = grind arith in
-    (where_long_enough _ _ _ _ _ _ c.event_lines.ensures c.last_line-last.ensures (ap (λ n. c.event_lines.result + n) c.len.ensures.value) is-good is-long).1
+    let is-long : ltb (length c.event_lines.new.out) (c.event_lines.result + length c.part-line.result.now) ≡ false = grind arith in
+    (where_long_enough _ _ _ _ _ c.event_lines.ensures (c.part-line.ensures.value ∙ c.last_line-last.ensures) is-good is-long).1
 
 pub returns-clause-stores : goal.returns-clause-stores
 returns-clause-stores c =
     let is-good : good c.args.schedule.now ≡ true = grind arith in
-    let is-long : ltb (length c.event_lines.new.out) (c.event_lines.result + c.len.result) ≡ false = grind arith in
+    let is-long : ltb (length c.event_lines.new.out) (c.event_lines.result + length c.part-line.result.now) ≡ false = grind arith in
     c.put_text.ensures
-    ∙ (where_long_enough _ _ _ _ _ _ c.event_lines.ensures c.last_line-last.ensures (ap (λ n. c.event_lines.result + n) c.len.ensures.value) is-good is-long).2
+    ∙ (where_long_enough _ _ _ _ _ c.event_lines.ensures (c.part-line.ensures.value ∙ c.last_line-last.ensures) is-good is-long).2

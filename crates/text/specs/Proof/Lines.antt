@@ -1,15 +1,16 @@
 -- A line's fields one after the other, how long they are, and bytes that are stored only where they are to be written. By induction over the fields. How the
 -- lines of a row of events go on is in proofs/EventLines. Assumes nothing.
-use Rattle.std.specs.Prelude.{Bool, List, [], ◌∷◌, ◌++◌, ◌≡◌, ℕ, suc, ◌+◌, ◌*◌, ◌≤◌, ◌<◌, ltb, drop, get_or}
+use Rattle.std.specs.Prelude.{Bool, List, [], ◌∷◌, ◌++◌, ◌≡◌, ℕ, suc, ◌+◌, ◌*◌, ◌≤◌, ◌<◌, ltb, drop, get_or, replicate, take}
 use Rattle.std.proofs.Math.Bool.{cond, false, true}
-use Rattle.std.proofs.Common.{append_assoc, append-nil, ap, sym, ◌∙◌, add-one, arith, length-append, length-drop, drop-cons, le-ltb, lt-ltb, ltb-false, ltb-true}
+use Rattle.std.proofs.Common.{append_assoc, append-nil, ap, sym, ◌∙◌, zero-add, add-one, arith, length-append, length-drop, drop-cons, le-ltb, lt-ltb, ltb-false, ltb-true}
 use Rattle.std.proofs.Math.Path.{refl}
 use Rattle.std.proofs.Math.ListN.{length}
-use Rattle.std.proofs.Math.Seq.{length-sets}
+use Rattle.std.proofs.lemmas.List.{length-replicate}
+use Rattle.std.proofs.Math.Seq.{length-sets, take-append_seam}
 use Rattle.std.proofs.lemmas.List.Edits.{sets}
-use Rattle.rows.specs.Stored.{sets_append}
+use Rattle.rows.specs.Stored.{sets_append, sets_over}
 use Rattle.text.specs.Decimal.{decimal}
-use Rattle.text.specs.Inner.{placed}
+use Rattle.text.specs.Inner.{line_room, placed}
 use Rattle.text.specs.Proof.Digits.{decimal_within}
 use Rattle.text.specs.Text.{line_end, numbers, space}
 
@@ -52,6 +53,10 @@ numbers_within (n ∷ ns) =
     rw (numbers_cons n ns)
     (simp length-append (omega (arith, decimal_within n, numbers_within ns)))
 
+-- So they fit where there is room for so many.
+pub numbers_fit : (at : ℕ) (ns : List ℕ) (room : ℕ) → at + 11 * length ns ≤ room → at + length (numbers ns) ≤ room
+numbers_fit at ns room h = omega (arith, numbers_within ns)
+
 -- ---- bytes that are stored only where they are to be written
 module _ (write : Bool) (out : List ℕ) (at : ℕ) where
   pub placed_none : placed write out at [] ≡ out
@@ -78,3 +83,18 @@ module _ (write : Bool) (out : List ℕ) (at : ℕ) where
       go : (t : Bool) → length (cond t (sets out at p) out) ≡ length out
       go true = length-sets out at p
       go false = refl
+
+-- A line that is stored in an array with room for any line: a word at its start, and behind the word numbers that are these.
+pub made : (word ns : List ℕ) {bytes first ns' : List ℕ} {size : ℕ} → length word + 11 * length ns ≤ line_room → first ≡ sets (replicate line_room 0) 0 word
+    → size ≡ length word + length (numbers ns) → bytes ≡ sets first (length word) (numbers ns) → ns ≡ ns' → take size bytes ≡ word ++ numbers ns'
+made word ns {bytes} fits begun long stored same =
+    let room : List ℕ = replicate line_room 0 in
+    let full : length room ≡ line_room = length-replicate {A = ℕ} line_room 0 in
+    let whole : List ℕ = word ++ numbers ns in
+    let within : length whole ≤ line_room = omega (arith, length-append word (numbers ns), numbers_within ns) in
+    let is : bytes ≡ sets room 0 whole =
+    stored
+    ∙ ap (λ (o : List ℕ). sets o (length word) (numbers ns)) begun
+    ∙ ap (λ (n : ℕ). sets (sets room 0 word) n (numbers ns)) (sym (zero-add (length word)))
+    ∙ sym (sets_append room 0 word (numbers ns)) in
+    rw (← same, long ∙ sym (length-append word (numbers ns)), is, sets_over whole room (omega arith)) (take-append_seam whole (drop (length whole) room))
