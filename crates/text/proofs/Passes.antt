@@ -72,10 +72,10 @@ module _ {write : Bool} {b out₀ out : List ℕ} {s : State} {place i : ℕ} (l
   stored_line = sym (placed_append write out place line rest) ∙ ap (placed write out place) (sym from) ∙ left.stored
 
   -- There is room for its line wherever there is room for all.
-  pub line_fits : length l ≤ line_room → LinesFit write b out₀ → LineFits write l place out
-  line_fits within fits = record {
+  pub has_room : length l ≤ line_room → good b ≡ true → LinesFit write b out₀ → LineFits write l place out
+  has_room within rule fits = record {
     within = within;
-    near = omega (arith, behind_line, lines_near b fits.schedule);
+    near = omega (arith, behind_line, lines_near b rule);
     room = λ w. omega (arith, behind_line, ap length made, fits.room w, left.long);
   }
 

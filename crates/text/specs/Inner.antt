@@ -1,7 +1,6 @@
 -- What the crate's inner functions ask for and give; no call of document 01 is promised by these. Assumes nothing.
 use Rattle.std.specs.Prelude.{Bool, cond, true, List, ◌≡◌, ℕ, ◌+◌, ◌*◌, ◌≤◌, length}
 use Rattle.std.proofs.lemmas.List.Edits.{sets}
-use Rattle.schedule.specs.Schedule.{good}
 use Rattle.text.specs.Text.{heading, last_of, lines_of, text_of}
 
 -- what no line of the text is longer than: eight numbers of at most ten digits, and a byte behind each
@@ -22,18 +21,16 @@ pub record LineFits (write : Bool) (line : List ℕ) (at : ℕ) (out : List ℕ)
   pub near : at ≤ farthest
   pub room : write ≡ true → at + length line ≤ length out
 
--- The schedule is good, and there is room for the lines of its events behind the heading, where they are to be written.
+-- There is room for the lines of the schedule's events behind the heading, where they are to be written.
 pub record LinesFit (write : Bool) (b out : List ℕ) : Type 0 where
-  pub schedule : good b ≡ true
   pub room : write ≡ true → length heading + length (lines_of b) ≤ length out
 
 -- What a pass over the events gives: the place behind the last line, and the lines stored, where they are to be written.
 abbrev pub Passed : Bool → List ℕ → List ℕ → List ℕ → ℕ → Type 0
 Passed write b out₀ out place = (place ≡ length heading + length (lines_of b)) × (out ≡ placed write out₀ (length heading) (lines_of b))
 
--- The schedule is good, the line is the last of its text, and there is room for the text.
+-- The line is the last of the schedule's text, and there is room for the text.
 pub record TextFits (b line out : List ℕ) : Type 0 where
-  pub schedule : good b ≡ true
   pub last : line ≡ last_of b
   pub within : length line ≤ line_room
   pub room : length (text_of b) ≤ length out

@@ -10,7 +10,6 @@ ghost use Rattle.lock.specs.declared.State.{State};
 ghost use Rattle.machine.specs.Step.{stepped};
 ghost use Rattle.rows.specs.Rows.{over};
 ghost use Rattle.saved.specs.Saved.{bytes_of, saved_good, state_in};
-ghost use Rattle.schedule.specs.Schedule.{good};
 ghost use Rattle.text.specs.Decimal.{decimal};
 ghost use Rattle.text.specs.Inner.{LineFits, LinesFit, Passed, TextFits, placed};
 ghost use Rattle.text.specs.Text.{begin as begin_of, event_line, last_of, line_before, line_end, numbers, space};
@@ -20,6 +19,7 @@ ghost use Rattle.text.specs.Written.{written_of};
 use events::Event;
 use number::{Refusal, answer_number, refuse};
 use saved::MOST_SAVED;
+use schedule::Schedule;
 
 // No text is longer.
 pub const MOST_TEXT: usize = 606_235;
@@ -146,12 +146,11 @@ fn put_line(out: &mut [u8], at: usize, line: &[u8], write: bool) -> usize
 
 // ---- the text
 
-// The state that a good schedule is run from, in its bytes.
-fn begin(schedule: &[u8]) -> Buffer<MOST_SAVED>
-    requires { good schedule.now ≡ true }
-    ensures { take result.size result.bytes ≡ bytes_of (begin_of schedule.now) }
+// The state that a schedule is run from, in its bytes.
+fn begin(schedule: Schedule) -> Buffer<MOST_SAVED>
+    ensures { take result.size result.bytes ≡ bytes_of (begin_of schedule.entry.bytes.now) }
 {
-    let h = schedule::heading_of(schedule);
+    let h = schedule.heading();
     let size = saved::size(h.threads, h.nodes);
     let mut bytes = [0; MOST_SAVED];
     saved::put_fresh(h.threads, h.nodes, &mut bytes);
@@ -160,13 +159,13 @@ fn begin(schedule: &[u8]) -> Buffer<MOST_SAVED>
 
 // One pass over the events, on the bytes of the state that they are run from: their lines from behind the
 // heading on, where they are to be written. Gives the place behind the last.
-fn pass(b: &mut [u8], schedule: &[u8], out: &mut [u8], write: bool) -> usize
-    requires { (b.old ≡ bytes_of (begin_of schedule.now)) × LinesFit write schedule.now out.old }
-    ensures { Passed write schedule.now out.old out.new result }
+fn pass(b: &mut [u8], schedule: Schedule, out: &mut [u8], write: bool) -> usize
+    requires { (b.old ≡ bytes_of (begin_of schedule.bytes.now)) × LinesFit write schedule.bytes.now out.old }
+    ensures { Passed write schedule.entry.bytes.now out.old out.new result }
 {
     let mut place = HEADING_LENGTH;
-    for i in 0..schedule::events_in(schedule) {
-        let e = schedule::event_at(schedule, i);
+    for i in 0..schedule.len() {
+        let e = schedule.event(i);
         let before = line_before(b, e);
         let answer = answer_number(event::event(b, e.thread, e.node));
         let line = event_line((i + 1) as u32, e, before, answer, b);
@@ -179,20 +178,20 @@ fn pass(b: &mut [u8], schedule: &[u8], out: &mut [u8], write: bool) -> usize
 }
 
 // The same, from a fresh state.
-fn event_lines(schedule: &[u8], out: &mut [u8], write: bool) -> usize
-    requires { LinesFit write schedule.now out.old }
-    ensures { Passed write schedule.now out.old out.new result }
+fn event_lines(schedule: Schedule, out: &mut [u8], write: bool) -> usize
+    requires { LinesFit write schedule.bytes.now out.old }
+    ensures { Passed write schedule.entry.bytes.now out.old out.new result }
 {
     let mut fresh = begin(schedule);
     let size = fresh.size;
     pass(&mut fresh.bytes[..size], schedule, out, write)
 }
 
-// The run of a good schedule's events on the bytes of the state that they are run from, and the last line:
+// The run of a schedule's events on the bytes of the state that they are run from, and the last line:
 // what the run reports, and what can be asked of the state that it ends in.
-fn end_line(b: &mut [u8], schedule: &[u8]) -> Buffer<LINE_ROOM>
-    requires { (b.old ≡ bytes_of (begin_of schedule.now)) × (good schedule.now ≡ true) }
-    ensures { take result.size result.bytes ≡ last_of schedule.now }
+fn end_line(b: &mut [u8], schedule: Schedule) -> Buffer<LINE_ROOM>
+    requires { b.old ≡ bytes_of (begin_of schedule.bytes.now) }
+    ensures { take result.size result.bytes ≡ last_of schedule.entry.bytes.now }
 {
     let mut answers = [0u8; MOST_EVENTS];
     let report = run::run_events(b, schedule, &mut answers);
@@ -209,20 +208,19 @@ fn end_line(b: &mut [u8], schedule: &[u8]) -> Buffer<LINE_ROOM>
     Buffer { bytes, size }
 }
 
-// The last line of a good schedule's text.
-fn last_line(schedule: &[u8]) -> Buffer<LINE_ROOM>
-    requires { good schedule.now ≡ true }
-    ensures { take result.size result.bytes ≡ last_of schedule.now }
+// The last line of a schedule's text.
+fn last_line(schedule: Schedule) -> Buffer<LINE_ROOM>
+    ensures { take result.size result.bytes ≡ last_of schedule.entry.bytes.now }
 {
     let mut fresh = begin(schedule);
     let size = fresh.size;
     end_line(&mut fresh.bytes[..size], schedule)
 }
 
-// The whole text of a good schedule at the start of `out`, with its last line.
-fn put_text(schedule: &[u8], out: &mut [u8], last: &[u8])
-    requires { TextFits schedule.now last.now out.old }
-    ensures { out.new ≡ over (text_of schedule.now) out.old }
+// The whole text of a schedule at the start of `out`, with its last line.
+fn put_text(schedule: Schedule, out: &mut [u8], last: &[u8])
+    requires { TextFits schedule.bytes.now last.now out.old }
+    ensures { out.new ≡ over (text_of schedule.entry.bytes.now) out.old }
 {
     rows::put(out, 0, &HEADING);
     let place = event_lines(schedule, out, true);
@@ -242,11 +240,11 @@ pub fn text(schedule: &[u8], out: &mut [u8]) -> Result<usize, Refusal>
     ensures gives { written_of result ≡ given schedule.now out.old }
     ensures stores { out.new ≡ text_bytes schedule.now out.old }
 {
-    refuse(!schedule::good(schedule), Refusal::BadSchedule)?;
-    let last = last_line(schedule);
+    let judged = Schedule::judge(schedule)?;
+    let last = last_line(judged);
     let line = last.part();
-    let size = event_lines(schedule, out, false) + line.len();
+    let size = event_lines(judged, out, false) + line.len();
     refuse(out.len() < size, Refusal::TooShort)?;
-    put_text(schedule, out, line);
+    put_text(judged, out, line);
     Ok(size)
 }

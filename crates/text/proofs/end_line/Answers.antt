@@ -10,15 +10,15 @@ use Rattle.text.proofs.end_line.Goals as goal
 
 pub run_events-report-requires : goal.run_events-report-requires
 run_events-report-requires c =
-    let b = c.args.schedule.now in
-    ((first_good b c.requires.1 c.requires.0).0, c.requires.1, few_events b c.requires.1)
+    let b = c.args.schedule.bytes.now in
+    ((first_good b c.args.schedule.judged c.requires).0, few_events b c.args.schedule.judged)
 
 -- behind the run: the bytes are a saved state
 pub status_of-requires : goal.status_of-requires
-status_of-requires c = (end_good _ c.requires.1 c.requires.0 c.run_events-report.ensures.leaves).0
+status_of-requires c = (end_good _ c.args.schedule.judged c.requires c.run_events-report.ensures.leaves).0
 
 pub waiting_of-requires : goal.waiting_of-requires
-waiting_of-requires c = (end_good _ c.requires.1 c.requires.0 c.run_events-report.ensures.leaves).0
+waiting_of-requires c = (end_good _ c.args.schedule.judged c.requires c.run_events-report.ensures.leaves).0
 
 pub put_numbers-size-requires : goal.put_numbers-size-requires
 put_numbers-size-requires c = numbers_fit _ _ _ (omega (arith, c.put.auto.out))
@@ -36,4 +36,4 @@ returns c =
     let put = c.put_numbers-size.ensures in
     let ran = c.run_events-report.ensures in
     made word _ (omega arith) c.put.ensures put.place put.fields
-    (end_fields_lem _ c.requires.1 c.requires.0 ran.leaves ran.gives (c.from.ensures ∙ c.status_of.ensures) c.waiting_of.ensures)
+    (end_fields_lem _ c.args.schedule.judged c.requires ran.leaves ran.gives (c.from.ensures ∙ c.status_of.ensures) c.waiting_of.ensures)

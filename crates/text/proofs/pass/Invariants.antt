@@ -6,6 +6,6 @@ use Rattle.text.proofs.pass.Given as goal
 
 abbrev pub invariant-loop-i : goal.invariant-loop-i
 invariant-loop-i l = record {
-  left : Left l.write l.schedule l.fn.out l.out (state_in l.b) l.place l.i;
+  left : Left l.write l.schedule.bytes.now l.fn.out l.out (state_in l.b) l.place l.i;
   good : saved_good l.b ≡ true;
 }

@@ -9,29 +9,28 @@ use Rattle.text.specs.Text.{heading, last_of, lines_of}
 use Rattle.text.proofs.put_text.Goals as goal
 
 pub put-requires : goal.put-requires
-put-requires c = omega (arith, c.requires.room, text_length c.args.schedule.now, heading_length)
+put-requires c = omega (arith, c.requires.room, text_length c.args.schedule.bytes.now, heading_length)
 
 pub event_lines-place-requires : goal.event_lines-place-requires
 event_lines-place-requires c = record {
-  schedule = c.requires.schedule;
-  room = λ w. omega (arith, c.requires.room, text_length c.args.schedule.now, c.put.auto.out);
+  room = λ w. omega (arith, c.requires.room, text_length c.args.schedule.bytes.now, c.put.auto.out);
 }
 
 pub put_line-requires : goal.put_line-requires
 put_line-requires c =
-    let b = c.args.schedule.now in
+    let b = c.args.schedule.bytes.now in
     let lines = c.event_lines-place in
     let place = lines.ensures.0 in
     record {
       within = c.requires.within;
-      near = omega (arith, place, lines_near b c.requires.schedule);
+      near = omega (arith, place, lines_near b c.args.schedule.judged);
       room = λ w. omega (arith, c.requires.room, text_length b, place, ap length c.requires.last, lines.auto.out, c.put.auto.out);
     }
 
 pub returns : goal.returns
 unfolding letters_from
 returns c =
-    let b = c.args.schedule.now in
+    let b = c.args.schedule.bytes.now in
     let lines = c.event_lines-place in
     let behind : ℕ = length heading + length (lines_of b) in
     c.put_line.ensures.bytes

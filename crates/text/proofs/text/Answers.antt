@@ -1,6 +1,9 @@
 -- `text::text` meets its contract. A pass that does not write leaves the buffer, and with the last line it says how long the text is; each return is one
 -- case of the call's number (Given). Assumes nothing.
-use Rattle.std.proofs.Common.{List, false, true, ◌≡◌, ℕ, ◌+◌, ◌≤◌, ap, arith, length, ltb, ltb-false, ltb-true, sym, ◌∙◌}
+use Rattle.std.specs.Borrow.{Bor}
+use Rattle.std.proofs.Common.{Bool, List, cond, false, refl, true, ◌≡◌, ℕ, ◌+◌, ◌≤◌, ap, arith, length, ltb, ltb-false, ltb-true, sym, ◌∙◌}
+use Rattle.number.specs.Answer.{number_of, refused}
+use Rattle.number.specs.declared.Refusal.{Refusal}
 use Rattle.number.specs.Refused.{bad_schedule, done, too_short}
 use Rattle.rows.specs.Rows.{over}
 use Rattle.schedule.specs.Schedule.{good}
@@ -13,22 +16,25 @@ use Rattle.text.specs.Written.{written_of}
 use Rattle.text.proofs.text.Goals as goal
 
 -- ---- where the schedule is bad
-pub returns-in_err-refuse-clause-gives : goal.returns-in_err-refuse-clause-gives
-returns-in_err-refuse-clause-gives c =
-    let is-bad : good c.args.schedule.now ≡ false = grind arith in
-    let number : written_of c.from_residual.result ≡ written bad_schedule 0 = grind arith in
-    number ∙ sym (bad c.args.schedule.now c.args.out.now is-bad).0
+refused_lem : (g : Bool) (r : Refusal) → number_of r ≡ cond g done bad_schedule → (g ≡ false) × (number_of r ≡ bad_schedule)
+refused_lem true r e = absurd (refused r e)
+refused_lem false r e = (refl, e)
 
-pub returns-in_err-refuse-clause-stores : goal.returns-in_err-refuse-clause-stores
-returns-in_err-refuse-clause-stores c =
-    let is-bad : good c.args.schedule.now ≡ false = grind arith in
-    sym (bad c.args.schedule.now c.args.out.now is-bad).1
+pub returns-in_err-judged-clause-gives : goal.returns-in_err-judged-clause-gives
+returns-in_err-judged-clause-gives c =
+    let told = refused_lem (good c.args.schedule.now) c.in_err-judged.field-0.0 c.in_err-judged.ensures.judged in
+    let number : written_of c.from_residual.result ≡ written (number_of c.in_err-judged.field-0.0) 0 = grind arith in
+    number ∙ ap (λ (n : ℕ). written n 0) told.1 ∙ sym (bad c.args.schedule.now c.args.out.now told.0).0
+
+pub returns-in_err-judged-clause-stores : goal.returns-in_err-judged-clause-stores
+returns-in_err-judged-clause-stores c =
+    let told = refused_lem (good c.args.schedule.now) c.in_err-judged.field-0.0 c.in_err-judged.ensures.judged in
+    sym (bad c.args.schedule.now c.args.out.now told.0).1
 
 -- ---- where it is good, and the text is measured by a pass that does not write
 pub overflow_add-size : goal.overflow_add-size
 overflow_add-size c =
-    let is-good : good c.args.schedule.now ≡ true = grind arith in
-    omega (arith, c.event_lines.ensures.0, lines_near c.args.schedule.now is-good, c.part-line.ensures.fits)
+    omega (arith, c.event_lines.ensures.0, lines_near c.in_ok-judged.judged.bytes.now c.in_ok-judged.judged.judged, c.part-line.ensures.fits)
 
 module _ (b out out' last : List ℕ) (place : ℕ) (passed : Passed false b out out' place) (made : last ≡ last_of b)
     (rule : good b ≡ true) where
@@ -52,39 +58,43 @@ module _ (b out out' last : List ℕ) (place : ℕ) (passed : Passed false b out
       let l = fits b out rule (omega (arith, ltb-false _ _ h, measured, ap length unchanged)) in
       (omega (arith, ltb-false _ _ h, measured), ap (written done) measured ∙ sym l.0, ap (over (text_of b)) unchanged ∙ sym l.1)
 
-pub returns-in_err-refuse-2-clause-gives : goal.returns-in_err-refuse-2-clause-gives
-returns-in_err-refuse-2-clause-gives c =
-    let is-good : good c.args.schedule.now ≡ true = grind arith in
+pub returns-in_err-refuse-clause-gives : goal.returns-in_err-refuse-clause-gives
+returns-in_err-refuse-clause-gives c =
+    let rule = c.in_ok-judged.judged.judged in
     let is-short : ltb (length c.event_lines.new.out) (c.event_lines.result + length c.part-line.result.now) ≡ true = grind arith in
-    let number : written_of c.from_residual-in_err-refuse-2.result ≡ written too_short 0 = grind arith in
-    number ∙ (where_short _ _ _ _ _ c.event_lines.ensures (c.part-line.ensures.value ∙ c.last_line-last.ensures) is-good is-short).0
+    let number : written_of c.from_residual-in_err-refuse.result ≡ written too_short 0 = grind arith in
+    number
+    ∙ (where_short _ _ _ _ _ c.event_lines.ensures (c.part-line.ensures.value ∙ c.last_line-last.ensures) rule is-short).0
+    ∙ ap (λ (s : Bor (List ℕ)). given s.now c.args.out.now) c.in_ok-judged.ensures.same
 
-pub returns-in_err-refuse-2-clause-stores : goal.returns-in_err-refuse-2-clause-stores
-returns-in_err-refuse-2-clause-stores c =
-    let is-good : good c.args.schedule.now ≡ true = grind arith in
+pub returns-in_err-refuse-clause-stores : goal.returns-in_err-refuse-clause-stores
+returns-in_err-refuse-clause-stores c =
+    let rule = c.in_ok-judged.judged.judged in
     let is-short : ltb (length c.event_lines.new.out) (c.event_lines.result + length c.part-line.result.now) ≡ true = grind arith in
-    (where_short _ _ _ _ _ c.event_lines.ensures (c.part-line.ensures.value ∙ c.last_line-last.ensures) is-good is-short).1
+    (where_short _ _ _ _ _ c.event_lines.ensures (c.part-line.ensures.value ∙ c.last_line-last.ensures) rule is-short).1
+    ∙ ap (λ (s : Bor (List ℕ)). text_bytes s.now c.args.out.now) c.in_ok-judged.ensures.same
 
 pub put_text-requires : goal.put_text-requires
 put_text-requires c =
-    let is-good : good c.args.schedule.now ≡ true = grind arith in
+    let rule = c.in_ok-judged.judged.judged in
     let is-long : ltb (length c.event_lines.new.out) (c.event_lines.result + length c.part-line.result.now) ≡ false = grind arith in
     record {
-      schedule = is-good;
       last = c.part-line.ensures.value ∙ c.last_line-last.ensures;
       within = c.part-line.ensures.fits;
-      room = (where_long_enough _ _ _ _ _ c.event_lines.ensures (c.part-line.ensures.value ∙ c.last_line-last.ensures) is-good is-long).0;
+      room = (where_long_enough _ _ _ _ _ c.event_lines.ensures (c.part-line.ensures.value ∙ c.last_line-last.ensures) rule is-long).0;
     }
 
 pub returns-clause-gives : goal.returns-clause-gives
 returns-clause-gives c =
-    let is-good : good c.args.schedule.now ≡ true = grind arith in
+    let rule = c.in_ok-judged.judged.judged in
     let is-long : ltb (length c.event_lines.new.out) (c.event_lines.result + length c.part-line.result.now) ≡ false = grind arith in
-    (where_long_enough _ _ _ _ _ c.event_lines.ensures (c.part-line.ensures.value ∙ c.last_line-last.ensures) is-good is-long).1
+    (where_long_enough _ _ _ _ _ c.event_lines.ensures (c.part-line.ensures.value ∙ c.last_line-last.ensures) rule is-long).1
+    ∙ ap (λ (s : Bor (List ℕ)). given s.now c.args.out.now) c.in_ok-judged.ensures.same
 
 pub returns-clause-stores : goal.returns-clause-stores
 returns-clause-stores c =
-    let is-good : good c.args.schedule.now ≡ true = grind arith in
+    let rule = c.in_ok-judged.judged.judged in
     let is-long : ltb (length c.event_lines.new.out) (c.event_lines.result + length c.part-line.result.now) ≡ false = grind arith in
     c.put_text.ensures
-    ∙ (where_long_enough _ _ _ _ _ c.event_lines.ensures (c.part-line.ensures.value ∙ c.last_line-last.ensures) is-good is-long).2
+    ∙ (where_long_enough _ _ _ _ _ c.event_lines.ensures (c.part-line.ensures.value ∙ c.last_line-last.ensures) rule is-long).2
+    ∙ ap (λ (s : Bor (List ℕ)). text_bytes s.now c.args.out.now) c.in_ok-judged.ensures.same
