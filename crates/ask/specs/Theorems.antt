@@ -1,16 +1,22 @@
 -- What the questions promise: the theorems that a buyer needs, each under a plain sentence. The arguments are in Proof. (`Sized s`: the tables have room
 -- for 32 each. In code their type says so.) Assumes nothing.
-use Rattle.std.specs.Prelude.{Bool, cond, false, List, ◌++◌, ◌≢◌, ◌↔◌, ◌≡◌, ℕ, ◌+◌, ◌≤◌, ◌<◌, drop, get_or, length}
+use Rattle.std.specs.Prelude.{Bool, cond, false, List, ◌++◌, ◌≢◌, ◌↔◌, ◌≡◌, refl, ℕ, ◌+◌, ◌≤◌, ◌<◌, drop, eqb, get_or, length}
+use Rattle.std.proofs.Common.{Err, Ok, Result, ap, sym, ◌∙◌}
 use Rattle.lock.specs.State.{◌⟨shared≔◌⟩, ◌⟨thread◌≔◌⟩, ◌⟨used≔◌⟩, thread_at}
 use Rattle.lock.specs.Valid.{Between, Sized, Valid}
 use Rattle.lock.specs.declared.State.{State}
 use Rattle.lock.specs.declared.Thread.{Thread}
+use Rattle.number.specs.Answer.{told_apart}
 use Rattle.number.specs.OneResult.{only}
 use Rattle.number.specs.Refused.{bad_state, done}
 use Rattle.number.specs.declared.NodeNo.{NodeNo}
+use Rattle.number.specs.declared.Refusal.{Refusal}
 use Rattle.number.specs.declared.ThreadNo.{ThreadNo}
 use Rattle.word.specs.Word.{how_many_to}
-use Rattle.ask.specs.Ask.{answered, chain, chain_bytes, chain_from, how_many_threads, nodes_in_use, refused, status, waiting}
+use Rattle.ask.specs.Ask.{answered, asked_status, chain, chain_bytes, chain_from, free, held, how_many_threads, nodes_in_use, number_of_status}
+use Rattle.ask.specs.Ask.{refused, status, waiting}
+use Rattle.ask.specs.declared.LockStatus.{LockStatus}
+use Rattle.ask.specs.declared.LockStatus.TheVariants.{Free, Held, Passing}
 use Rattle.ask.specs.Meaning.{ChainOf, First, StatusIs, at16or19, chain_conditions}
 use Rattle.ask.specs.Proof.Answer
 use Rattle.ask.specs.Proof.Chain
@@ -34,6 +40,21 @@ status_refused s = Answer.judged_refused s _
 -- No second result fits the promise of `status`.
 pub status_one_result : (s : State) (r r' : Asked) → r ≡ status s → r' ≡ status s → r ≡ r'
 status_one_result s r r' = only
+
+-- .. and no second answer of the call stands for it.
+abbrev status_with : ℕ → LockStatus
+status_with n = cond (eqb n free) Free (cond (eqb n held) Held Passing)
+
+back : (a : LockStatus) → status_with (number_of_status a) ≡ a
+back Free = refl
+back Held = refl
+back Passing = refl
+
+same_status : (a a' : LockStatus) → asked_status (Ok a) ≡ asked_status (Ok a') → a ≡ a'
+same_status a a' e = sym (back a) ∙ ap (λ (x : Asked). status_with x.value) e ∙ back a'
+
+pub status_one_answer : (s : State) (r r' : Result LockStatus Refusal) → asked_status r ≡ status s → asked_status r' ≡ status s → r ≡ r'
+status_one_answer s r r' p q = told_apart asked_status (λ a. a.number) (elim [ Ok a ↦ refl | Err r ↦ refl ]) same_status r r' (only p q)
 
 -- ---- waiting
 
