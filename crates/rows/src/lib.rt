@@ -1,9 +1,9 @@
 // Records of one width, laid end to end, as saved states and schedules have them: definitions and laws are
 // in specs/. The only code is `put`, by which records are stored in a lent buffer, and `put_times`, which
-// stores copies of one record by it.
+// stores copies of one record by it; and a buffer with how many of its bytes are in use.
 #![tactic(auto)]
 
-ghost use Rattle.std.specs.Prelude.{◌*◌, ◌+◌, ◌≤◌, ◌≡◌, length};
+ghost use Rattle.std.specs.Prelude.{◌*◌, ◌+◌, ◌≤◌, ◌≡◌, length, take};
 ghost use Rattle.std.proofs.lemmas.List.Edits.{sets};
 ghost use Rattle.rows.specs.Rows.{times};
 
@@ -24,5 +24,22 @@ pub fn put_times(out: &mut [u8], at: usize, r: &[u8], n: u8)
 {
     for i in 0..n as usize {
         put(out, at + r.len() * i, r);
+    }
+}
+
+// Bytes in a buffer with room for N: the first `size` of it.
+#[derive(Clone, Copy)]
+pub struct Buffer<const N: usize> {
+    pub bytes: [u8; N],
+    pub size: usize,
+    pub ghost within: { size ≤ N },
+}
+
+impl<const N: usize> Buffer<N> {
+    pub fn part(&self) -> &[u8]
+        ensures value { result.now ≡ take self.now.size self.now.bytes }
+        ensures fits { length result.now ≤ N }
+    {
+        &self.bytes[..self.size]
     }
 }

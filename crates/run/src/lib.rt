@@ -168,9 +168,9 @@ pub fn run(s: State, schedule: &[u8], answers: &mut [u8]) -> Ran
 {
     match judged_with(s, schedule, answers.len()) {
         Ok(schedule) => {
-            let mut bytes = saved::laid(s);
-            let long = saved::size(s.shared.threads, s.shared.nodes);
-            run_laid(&mut bytes[..long], schedule, answers)
+            let mut laid = saved::laid(s);
+            let size = laid.size;
+            run_laid(&mut laid.bytes[..size], schedule, answers)
         }
         Err(refusal) => Ran {
             report: refused(refusal),

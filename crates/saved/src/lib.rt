@@ -17,10 +17,11 @@ ghost use Rattle.saved.specs.Inner.{IsRecord, LaidIn, Room};
 ghost use Rattle.saved.specs.Proof.Kinds.{node_is_record, thread_is_record};
 ghost use Rattle.saved.specs.Saved.{bytes_of, four_at, header_bytes, header_in, header_width};
 ghost use Rattle.saved.specs.Saved.{node_record, read as read_of, save_number, saved_good, saved_over};
-ghost use Rattle.saved.specs.Saved.{size as size_for, state_in, thread_record, threads_place};
+ghost use Rattle.saved.specs.Saved.{size as size_for, size_of, state_in, thread_record, threads_place};
 
 use lock::{Node, Ranged, Shared, State, Thread};
 use number::{NodeNo, Place, Refusal};
+use rows::Buffer;
 
 // How many bytes each kind of record has.
 pub const HEADER_WIDTH: usize = 23;
@@ -295,13 +296,15 @@ pub fn save(s: State, out: &mut [u8]) -> Result<(), Refusal>
 }
 
 // The bytes of s at the start of a buffer with room for any saved state.
-pub fn laid(s: State) -> [u8; MOST_SAVED]
+pub fn laid(s: State) -> Buffer<MOST_SAVED>
     requires { valid s ≡ true }
-    ensures { LaidIn s result }
+    ensures size { result.size ≡ size_of s }
+    ensures laid { LaidIn s result.bytes }
 {
-    let mut bytes = [0u8; MOST_SAVED];
+    let size = size(s.shared.threads, s.shared.nodes);
+    let mut bytes = [0; MOST_SAVED];
     put_state(s, &mut bytes);
-    bytes
+    Buffer { bytes, size }
 }
 
 // The saved fresh state of T threads and K nodes at the start of out.

@@ -26,7 +26,7 @@ pub fn step(s: State, t: ThreadNo, n: NodeNo) -> Result<State, Refusal>
     ensures { stepped_from s result ≡ step_of s t n }
 {
     number::refuse(!lock::valid(s), Refusal::BadState)?;
-    let mut bytes = saved::laid(s);
-    let long = saved::size(s.shared.threads, s.shared.nodes);
-    advance(&mut bytes[..long], t, n)
+    let mut laid = saved::laid(s);
+    let size = laid.size;
+    advance(&mut laid.bytes[..size], t, n)
 }

@@ -18,6 +18,7 @@ ghost use Rattle.text.specs.Written.{written_of};
 
 use events::Event;
 use number::{Refusal, answer_number, refuse};
+use rows::Buffer;
 use saved::MOST_SAVED;
 use schedule::Schedule;
 
@@ -32,23 +33,6 @@ const HEADING_LENGTH: usize = 40;
 const LINE_ROOM: usize = 88;
 // No schedule has more events.
 const MOST_EVENTS: usize = 16_383;
-
-// Bytes in a buffer with room for N: the first `size` of it.
-#[derive(Clone, Copy)]
-struct Buffer<const N: usize> {
-    bytes: [u8; N],
-    size: usize,
-    ghost within: { size ≤ N },
-}
-
-impl<const N: usize> Buffer<N> {
-    fn part(&self) -> &[u8]
-        ensures value { result.now ≡ take self.now.size self.now.bytes }
-        ensures fits { length result.now ≤ N }
-    {
-        &self.bytes[..self.size]
-    }
-}
 
 // ---- numbers
 

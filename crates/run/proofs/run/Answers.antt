@@ -7,19 +7,19 @@ use Rattle.run.specs.Run.{run, run_bytes}
 use Rattle.saved.specs.Proof.Held.{bytes_good}
 use Rattle.run.proofs.run.Goals as goal
 
-pub laid-bytes-requires : goal.laid-bytes-requires
-laid-bytes-requires c = (passed c.args.s c.args.schedule.now _ (sym c.judged_with.ensures.refusal ∙ ap answer_of c.in-Ok.is)).state
+pub laid-laid-requires : goal.laid-laid-requires
+laid-laid-requires c = (passed c.args.s c.args.schedule.now _ (sym c.judged_with.ensures.refusal ∙ ap answer_of c.in-Ok.is)).state
 
 pub run_laid-requires : goal.run_laid-requires
 run_laid-requires c =
     let p = passed c.args.s c.args.schedule.now _ (sym c.judged_with.ensures.refusal ∙ ap answer_of c.in-Ok.is) in
-    let lent = bytes_good _ _ c.laid-bytes.ensures.rule c.laid-bytes.ensures.bytes in
-    (rw c.size-long.ensures lent.0, rw c.in-Ok.ensures.same p.answers)
+    let lent = bytes_good _ _ c.laid-laid.ensures.laid.rule c.laid-laid.ensures.laid.bytes in
+    (rw c.laid-laid.ensures.size lent.0, rw c.in-Ok.ensures.same p.answers)
 
 pub returns-in-Ok : goal.returns-in-Ok
 unfolding run run_bytes
 returns-in-Ok c =
-    let lent = rw (← c.size-long.ensures) at (bytes_good _ _ c.laid-bytes.ensures.rule c.laid-bytes.ensures.bytes) in
+    let lent = rw (← c.laid-laid.ensures.size) at (bytes_good _ _ c.laid-laid.ensures.laid.rule c.laid-laid.ensures.laid.bytes) in
     rw (sym c.judged_with.ensures.refusal ∙ ap answer_of c.in-Ok.is, ← lent.1, ← c.in-Ok.ensures.same) c.run_laid.ensures
 
 pub returns-in-Err : goal.returns-in-Err

@@ -21,7 +21,16 @@ returns c =
     let rule : Valid s = valid_rule s (record { nodes = search length_mapped; threads = search length_mapped }) c.requires in
     let size = saved_size s rule in
     record {
-      rule = rule;
-      bytes = rw c.put_state.ensures (take_at (bytes_of s) _ (size_of s) size.0);
-      fits = omega (arith, size.1, c.put_state.auto.out);
+      size = c.size-size.ensures;
+      laid = record {
+        rule = rule;
+        bytes = rw c.put_state.ensures (take_at (bytes_of s) _ (size_of s) size.0);
+        fits = omega (arith, size.1, c.put_state.auto.out);
+      };
     }
+
+pub invariant_of-result : goal.invariant_of-result
+invariant_of-result c =
+    let s = c.args.s in
+    let rule : Valid s = valid_rule s (record { nodes = search length_mapped; threads = search length_mapped }) c.requires in
+    record { within = omega (arith, c.size-size.ensures, (saved_size s rule).1) }

@@ -15,13 +15,13 @@ returns-in_err-refuse c =
 
 pub advance-requires : goal.advance-requires
 advance-requires c =
-    let laid = c.laid-bytes.ensures in
-    rw c.size-long.ensures (bytes_good _ _ laid.rule laid.bytes).0
+    let laid = c.laid-laid.ensures.laid in
+    rw c.laid-laid.ensures.size (bytes_good _ _ laid.rule laid.bytes).0
 
 pub returns : goal.returns
 unfolding step
 returns c =
-    let laid = c.laid-bytes.ensures in
-    let lent : state_in (take c.size-long.result c.laid-bytes.result) ≡ c.args.s = rw c.size-long.ensures (bytes_good _ _ laid.rule laid.bytes).1 in
+    let laid = c.laid-laid.ensures.laid in
+    let lent : state_in (take c.laid-laid.result.size c.laid-laid.result.bytes) ≡ c.args.s = rw c.laid-laid.ensures.size (bytes_good _ _ laid.rule laid.bytes).1 in
     let good : c.valid.result ≡ true = grind arith in
     rw (sym c.valid.ensures ∙ good, ← lent) c.advance.ensures
