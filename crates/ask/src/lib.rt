@@ -19,7 +19,7 @@ ghost use Rattle.word.specs.Word.{how_many};
 
 use lines::Wait;
 use lock::State;
-use number::{LAST_LINE, NodeNo, Refusal, ThreadNo, refuse};
+use number::{LAST_LINE, NodeNo, Refusal, ThreadNo, one_to, refuse};
 use saved::MOST_SAVED;
 
 // The lock is held by a thread at 20 to 29.
@@ -134,7 +134,7 @@ impl<'a> Judged<'a> {
     {
         let nodes = cells::nodes(self.bytes);
         refuse(out.len() < nodes as usize, Refusal::TooShort)?;
-        refuse(from.is_bottom() | (nodes < from.0), Refusal::WrongNode)?;
+        refuse(!one_to(nodes, from.0), Refusal::WrongNode)?;
         Ok(self.chain_from(from, nodes, out))
     }
 }

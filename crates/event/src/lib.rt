@@ -49,7 +49,7 @@ pub fn no_thread(b: &[u8], t: ThreadNo) -> bool
     requires { Laid b.now }
     ensures { Shows b.now result (λ s. no_thread s.shared.threads t) }
 {
-    (t.0 == 0) | (cells::threads(b) < t.0)
+    !number::one_to(cells::threads(b), t.0)
 }
 
 // One event of a saved state that was judged before: 5 to 12, the first that applies, or the line's changes,

@@ -11,7 +11,7 @@ ghost use Rattle.lock.specs.Valid.{threads_valid, up_to, valid as valid_of};
 
 use number::{
     FIRST_LINE, LAST_LINE, LAST_PLACE, MOST_ENTRIES, MOST_NODES, MOST_THREADS, NodeNo, Place,
-    Refusal,
+    Refusal, one_to,
 };
 
 // A queue node.
@@ -112,7 +112,7 @@ pub fn zero_state() -> State
 pub fn in_size(threads: u8, nodes: u8) -> bool
     ensures { result ≡ in_size threads nodes }
 {
-    (1 <= threads) & (threads <= MOST_THREADS) & (1 <= nodes) & (nodes <= MOST_NODES)
+    one_to(MOST_THREADS, threads) & one_to(MOST_NODES, nodes)
 }
 
 // A thread of a fresh state.

@@ -1,6 +1,6 @@
 -- A thread number, a node number and a place in the queue, "three separate quantities: a 3 in one is never read as a 3 in another": three types.
 -- Assumes nothing.
-use Rattle.std.specs.Prelude.{Bool, ℕ, ◌+◌, eqb}
+use Rattle.std.specs.Prelude.{Bool, ◌&&◌, ℕ, ◌+◌, eqb, leb}
 use Rattle.number.specs.declared.ThreadNo.{ThreadNo}
 use Rattle.number.specs.declared.NodeNo.{NodeNo}
 use Rattle.number.specs.declared.Place.{Place}
@@ -31,3 +31,7 @@ same j k = eqb j.0 k.0
 -- the place behind a place
 abbrev pub behind : Place → Place
 behind p = place (p.0 + 1)
+
+-- "T threads, 1 to 32, numbered from 1. K nodes, 1 to 32, numbered from 1.": the number is 1 to `most`
+abbrev pub one_to : ℕ → ℕ → Bool
+one_to most number = leb 1 number && leb number most

@@ -4,7 +4,7 @@
 #![tactic(auto)]
 
 ghost use Rattle.std.specs.Prelude.{cond, ◌≡◌};
-ghost use Rattle.number.specs.Numbers.{is_bottom};
+ghost use Rattle.number.specs.Numbers.{is_bottom, one_to};
 ghost use Rattle.number.specs.Answer.{answer_of, number_of, refused_if};
 
 // T threads, 1 to 32, numbered from 1.
@@ -65,6 +65,13 @@ pub fn refuse(test: bool, refusal: Refusal) -> Result<(), Refusal>
     ensures { result ≡ refused_if test refusal }
 {
     if test { Err(refusal) } else { Ok(()) }
+}
+
+// The number is 1 to `most`, as threads are numbered up to T and nodes up to K.
+pub fn one_to(most: u8, number: u8) -> bool
+    ensures { result ≡ one_to most number }
+{
+    (1 <= number) & (number <= most)
 }
 
 // A thread number, a node number and a place in the queue: a 3 in one is never read as a 3 in another.

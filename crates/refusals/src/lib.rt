@@ -78,7 +78,7 @@ pub fn choose_stop(b: &[u8], n: NodeNo) -> Result<(), Refusal>
     requires { Laid b.now }
     ensures { Shows b.now (answer_of result) (λ s. choose_stop s n) }
 {
-    number::refuse(n.is_bottom() | (cells::nodes(b) < n.0), Refusal::WrongNode)?;
+    number::refuse(!number::one_to(cells::nodes(b), n.0), Refusal::WrongNode)?;
     number::refuse(MOST_ENTRIES <= cells::entered(b), Refusal::NoEntryLeft)?;
     number::refuse(word::in_use(cells::local(b), n), Refusal::NodeTaken)
 }

@@ -5,13 +5,13 @@
 ghost use Rattle.std.specs.Prelude.{◌≡◌};
 ghost use Rattle.word.specs.Word.{alone_in, has_bit, how_many, in_use, none_from, put_in, take_out};
 
-use number::{MOST_NODES, NodeNo};
+use number::{MOST_NODES, NodeNo, one_to};
 
 // Nodes 1 to 32 have a bit.
 fn has_bit(k: NodeNo) -> bool
     ensures { result ≡ has_bit k }
 {
-    (1 <= k.0) & (k.0 <= MOST_NODES)
+    one_to(MOST_NODES, k.0)
 }
 
 // The word in which node k alone is in use.
