@@ -12,7 +12,7 @@ ghost use Rattle.run.specs.Run.{answers_of, onward, ran_over, refusal as refusal
 ghost use Rattle.run.specs.Run.{run_bytes, schedule_refusals, unread as unread_of, unread_from};
 ghost use Rattle.run.specs.Saved.{run_left};
 ghost use Rattle.saved.specs.Saved.{bytes_of, read, saved_good, state_in};
-ghost use Rattle.schedule.specs.Schedule.{events_in};
+ghost use Rattle.schedule.specs.Schedule.{events_in, good};
 
 use lock::State;
 use number::{DONE, Refusal, answer_number, refuse};
@@ -110,19 +110,19 @@ fn refused(refusal: Refusal) -> Report
 
 // The events of a good schedule, on the bytes of a saved state that was judged before, with room for each
 // answer. Each is executed in the bytes where they stand.
-pub fn run_events(b: &mut [u8], schedule: Schedule, answers: &mut [u8]) -> Report
-    requires { (saved_good b.old ≡ true) × (events_in schedule.bytes.now ≤ length answers.old) }
-    ensures gives { result ≡ (ran_over (state_in b.old) schedule.entry.bytes.now).report }
-    ensures leaves { b.new ≡ bytes_of (ran_over (state_in b.old) schedule.entry.bytes.now).state }
-    ensures stores { answers.new ≡ over (answers_of (state_in b.old) schedule.entry.bytes.now) answers.old }
+pub fn run_events(b: &mut [u8], schedule: &[u8], answers: &mut [u8]) -> Report
+    requires { (saved_good b.old ≡ true) × (good schedule.now ≡ true) × (events_in schedule.now ≤ length answers.old) }
+    ensures gives { result ≡ (ran_over (state_in b.old) schedule.now).report }
+    ensures leaves { b.new ≡ bytes_of (ran_over (state_in b.old) schedule.now).state }
+    ensures stores { answers.new ≡ over (answers_of (state_in b.old) schedule.now) answers.old }
 {
     let mut report = Report {
         executed: 0,
         waited: 0,
         stop: DONE,
     };
-    for i in 0..schedule.len() {
-        let e = schedule.event(i);
+    for i in 0..schedule::events_in(schedule) {
+        let e = schedule::event_at(schedule, i);
         let answer = event::event(b, e.thread, e.node);
         answers[i] = answer_number(answer);
         match answer {
@@ -144,7 +144,7 @@ pub fn run_saved(bytes: &mut [u8], schedule: &[u8], answers: &mut [u8]) -> Repor
     ensures stores { answers.new ≡ run_bytes (read bytes.old).state schedule.now answers.old }
 {
     match judged_with_saved(bytes, schedule, answers.len()) {
-        Ok(schedule) => run_events(bytes, schedule, answers),
+        Ok(schedule) => run_events(bytes, schedule.bytes, answers),
         Err(refusal) => refused(refusal),
     }
 }
@@ -155,7 +155,7 @@ fn run_laid(b: &mut [u8], schedule: Schedule, answers: &mut [u8]) -> Ran
     ensures gives { result ≡ ran_over (state_in b.old) schedule.entry.bytes.now }
     ensures stores { answers.new ≡ over (answers_of (state_in b.old) schedule.entry.bytes.now) answers.old }
 {
-    let report = run_events(b, schedule, answers);
+    let report = run_events(b, schedule.bytes, answers);
     let state = saved::state_in(b);
     Ran { report, state }
 }

@@ -178,7 +178,7 @@ fn end_line(b: &mut [u8], schedule: Schedule) -> Buffer<LINE_ROOM>
     ensures { take result.size result.bytes ≡ last_of schedule.entry.bytes.now }
 {
     let mut answers = [0u8; MOST_EVENTS];
-    let report = run::run_events(b, schedule, &mut answers);
+    let report = run::run_events(b, schedule.bytes, &mut answers);
     let fields = [
         report.executed,
         report.waited,

@@ -48,22 +48,22 @@ pub loop-i-init : goal.loop-i-init
 loop-i-init c = record { so_far = start advance _ _; no_stop = refl; stored = search rules; good = c.requires.0; bytes = search rules }
 
 -- the event that was answered is the next
-next_of : (c : After-answer_number) → let s₀ = state_in c.args.b.now in let es = events_of c.args.schedule.bytes.now in
+next_of : (c : After-answer_number) → let s₀ = state_in c.args.b.now in let es = events_of c.args.schedule.now in
     Next advance s₀ es c.loop-i.i (state_in c.loop-i.b) (stepped (answer_of c.event-answer.result) (state_in c.event-answer.new.b))
     × (saved_good c.event-answer.new.b ≡ true)
 next_of c =
-    let inside : c.loop-i.i < events_in c.args.schedule.bytes.now = omega arith in
-    told (state_in c.args.b.now) c.args.schedule.bytes.now c.loop-i.b c.loop-i.invariant.good inside c.event-e.result c.event-e.ensures c.event-answer.ensures
+    let inside : c.loop-i.i < events_in c.args.schedule.now = omega arith in
+    told (state_in c.args.b.now) c.args.schedule.now c.loop-i.b c.loop-i.invariant.good inside c.event_at-e.result c.event_at-e.ensures c.event-answer.ensures
 
 pub overflow_add-report : goal.overflow_add-report
-overflow_add-report c = omega (arith, counts _ c.args.schedule.bytes.now c.loop-i.invariant.so_far c.args.schedule.judged)
+overflow_add-report c = omega (arith, counts _ c.args.schedule.now c.loop-i.invariant.so_far c.requires.1)
 
 pub overflow_add-report-in-Err-MustWait : goal.overflow_add-report-in-Err-MustWait
-overflow_add-report-in-Err-MustWait c = omega (arith, counts _ c.args.schedule.bytes.now c.loop-i.invariant.so_far c.args.schedule.judged)
+overflow_add-report-in-Err-MustWait c = omega (arith, counts _ c.args.schedule.now c.loop-i.invariant.so_far c.requires.1)
 
 pub returns-in-Err : goal.returns-in-Err
 returns-in-Err c =
-    let schedule = c.args.schedule.bytes.now in
+    let schedule = c.args.schedule.now in
     let s₀ = state_in c.args.b.now in
     let f = c.loop-i.invariant.so_far in
     let t = next_of (goal.at.returns-in-Err c).After-answer_number in
@@ -81,7 +81,7 @@ returns-in-Err c =
 
 pub loop-i-preserved : goal.loop-i-preserved
 loop-i-preserved c =
-    let schedule = c.args.schedule.bytes.now in
+    let schedule = c.args.schedule.now in
     let s₀ = state_in c.args.b.now in
     let f = c.loop-i.invariant.so_far in
     let none = c.loop-i.invariant.no_stop in
@@ -105,7 +105,7 @@ loop-i-preserved c =
 -- behind the last event
 pub returns : goal.returns
 returns c =
-    let schedule = c.args.schedule.bytes.now in
+    let schedule = c.args.schedule.now in
     let f = c.loop-i.invariant.so_far in
     let taken : c.loop-i.i ≡ length (events_of schedule) = omega (arith, f.within, length_events schedule) in
     let o = at_the_end advance (state_in c.args.b.now) (events_of schedule) f taken in

@@ -11,9 +11,9 @@ use Rattle.run.proofs.run_events.Given as goal
 
 abbrev pub invariant-loop-i : goal.invariant-loop-i
 invariant-loop-i l = record {
-  so_far : SoFar advance (state_in l.fn.b) (events_of l.schedule.bytes.now) l.i (state_in l.b) l.report.executed l.report.waited;
+  so_far : SoFar advance (state_in l.fn.b) (events_of l.schedule) l.i (state_in l.b) l.report.executed l.report.waited;
   no_stop : l.report.stop ≡ done;
-  stored : l.answers ≡ take l.i (row advance (state_in l.fn.b) (events_of l.schedule.bytes.now)) ++ drop l.i l.fn.answers;
+  stored : l.answers ≡ take l.i (row advance (state_in l.fn.b) (events_of l.schedule)) ++ drop l.i l.fn.answers;
   good : saved_good l.b ≡ true;
   bytes : Bytes l.b;
 }

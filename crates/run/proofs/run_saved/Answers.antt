@@ -19,7 +19,7 @@ pub run_events-requires : goal.run_events-requires
 run_events-requires c =
     let a = c.args in
     let p = passed (read a.bytes.now).state a.schedule.now (length a.answers.now) (sym c.judged_with_saved.ensures.refusal ∙ ap answer_of c.in-Ok.is) in
-    (good a.bytes.now _ _ p, rw c.in-Ok.ensures.same p.answers)
+    (good a.bytes.now _ _ p, c.in-Ok.schedule.judged, rw c.in-Ok.ensures.same p.answers)
 
 pub returns-in-Ok : goal.returns-in-Ok
 returns-in-Ok c =

@@ -11,7 +11,7 @@ use Rattle.text.proofs.end_line.Goals as goal
 pub run_events-report-requires : goal.run_events-report-requires
 run_events-report-requires c =
     let b = c.args.schedule.bytes.now in
-    ((first_good b c.args.schedule.judged c.requires).0, few_events b c.args.schedule.judged)
+    ((first_good b c.args.schedule.judged c.requires).0, c.args.schedule.judged, few_events b c.args.schedule.judged)
 
 -- behind the run: the bytes are a saved state
 pub status_of-requires : goal.status_of-requires
