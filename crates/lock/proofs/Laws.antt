@@ -3,14 +3,17 @@
 --     up_to_parts    a table is judged in two parts
 -- Assumes nothing.
 use mathlib.Core.Path.{◌≡◌, ap, refl}
-use mathlib.Core.Bool.{Bool, ◌&&◌}
+use mathlib.Core.Bool.{Bool, true, ◌&&◌}
 use mathlib.Core.List.{List, [], ◌∷◌, ◌++◌}
-use Prim.Native.Nat.{ℕ, zero, suc, ◌+◌, ◌-◌, ◌<◌}
+use Prim.Native.Nat.{ℕ, zero, suc, ◌+◌, ◌-◌, ◌≤◌, ◌<◌}
 use native.Mathlib.Omega.{arith}
 use lib.ListN.{drop, length-replicate, replicate, replicate-append-replicate, set, take}
 use lib.Seq.{append_snoc, set_at}
 use Rattle.std.specs.List.{list_all}
-use Rattle.lock.specs.Valid.{up_to}
+use Rattle.number.specs.Sizes.{most_nodes, most_threads}
+use Rattle.lock.specs.Judged.{shared_rule}
+use Rattle.lock.specs.Valid.{shared_valid, up_to}
+use Rattle.lock.specs.declared.Shared.{Shared}
 
 -- ---- a table of m places, of which the first i have v and the others d
 
@@ -27,3 +30,10 @@ up_to_parts within past zero [] = refl
 up_to_parts within past (suc n) [] = refl
 up_to_parts within past zero (x ∷ xs) = ap (λ b. past x && b) (up_to_parts within past zero xs)
 up_to_parts within past (suc n) (x ∷ xs) = rw (up_to_parts within past n xs) (grind arith)
+
+-- ---- shared numbers that pass their test: T and K are at most the tables' size
+pub few_nodes : (sh : Shared) → shared_valid sh ≡ true → sh.nodes ≤ most_nodes
+few_nodes sh h = (shared_rule sh h).nodes.to
+
+pub few_threads : (sh : Shared) → shared_valid sh ≡ true → sh.threads ≤ most_threads
+few_threads sh h = (shared_rule sh h).threads.to

@@ -140,6 +140,7 @@ pub fn fresh_shared(threads: u8, nodes: u8) -> Shared
 }
 
 // The first `threads` threads are at line 11, and 0 is in every other place.
+#[tactic(auto, using(crate::proofs::Laws::fill_more), unfolding(crate::specs::Fresh::idle_to))]
 fn fresh_state(threads: u8, nodes: u8) -> State
     requires { in_size threads nodes ≡ true }
     ensures { result ≡ fresh_state threads nodes }
@@ -231,6 +232,7 @@ fn all_zero<E: Ranged>(table: &[E]) -> bool
 }
 
 // The first `used` entries are in range, and the others are 0.
+#[tactic(auto, using(crate::proofs::Laws::up_to_parts))]
 fn table_valid<E: Ranged>(table: &[E], used: u8, nodes: u8) -> bool
     requires { used ≤ length table.now }
     ensures { result ≡ up_to (E.in_range_of nodes) E.is_zero_of used table.now }
@@ -257,7 +259,7 @@ pub fn shared_valid(sh: Shared) -> bool
 }
 
 // The state is in the ranges of document 01, with 0 in every place past T or K.
-#[tactic(auto, unfolding(crate::specs::Valid::valid, crate::specs::Valid::nodes_valid, crate::specs::Valid::threads_valid))]
+#[tactic(auto, using(crate::proofs::Laws::few_nodes, crate::proofs::Laws::few_threads, crate::specs::Laws::length_mapped), unfolding(crate::specs::Valid::valid, crate::specs::Valid::nodes_valid, crate::specs::Valid::threads_valid))]
 pub fn valid(s: State) -> bool
     ensures { result ≡ valid_of s }
 {
