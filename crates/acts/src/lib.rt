@@ -9,7 +9,7 @@ ghost use Rattle.number.specs.Answer.{answer_of};
 ghost use Rattle.refusals.specs.Lines.{Gives, Ready, chosen, exchanged, flag_lowered, looked, mess_sent, mess_taken, prev_looked, succ_looked, tail_closed};
 
 use lines::Row;
-use number::{NodeNo, Place, Refusal, ThreadNo};
+use number::{NodeNo, Refusal, ThreadNo};
 
 // 11 | my := the event's node, put in use; entered + 1
 pub fn choose(b: &mut [u8], row: Row, t: ThreadNo, n: NodeNo) -> Result<(), Refusal>
@@ -40,7 +40,7 @@ pub fn exchange(b: &mut [u8], row: Row, t: ThreadNo, n: NodeNo) -> Result<(), Re
     cells::set_prev(b, t, tail);
     cells::set_tail(b, my);
     cells::set_slot(b, t, high);
-    cells::set_high(b, Place(high.0 + 1));
+    cells::set_high(b, high.behind());
     cells::set_line(b, t, row.2);
     Ok(())
 }

@@ -45,12 +45,7 @@ impl From<LockStatus> for u8 {
 fn is_counted(w: Wait) -> bool
     ensures { result ≡ is_counted w }
 {
-    match w {
-        Wait::NoWait => false,
-        Wait::ForFlag => true,
-        Wait::ForUnlock => true,
-        Wait::ForLink => false,
-    }
+    matches!(w, Wait::ForFlag | Wait::ForUnlock)
 }
 
 // The bytes of a saved state that was judged: they hold a state that keeps its rules. Only these are asked.
@@ -87,7 +82,7 @@ impl<'a> Judged<'a> {
     fn status(self) -> LockStatus
         ensures { number_of_status result ≡ status_of (state_in self.entry.bytes.now) }
     {
-        let holders = self.how_many_threads(|line| (FIRST_HELD <= line) & (line <= LAST_LINE));
+        let holders = self.how_many_threads(|line| (FIRST_HELD..=LAST_LINE).contains(&line));
         if cells::tail(self.bytes).is_bottom() & (cells::flag(self.bytes) == 1) {
             LockStatus::Free
         } else if holders != 0 {

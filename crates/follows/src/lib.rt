@@ -10,7 +10,7 @@ ghost use Rattle.refusals.specs.Lines.{Gives, Ready, Strict, freed, locked_set, 
 ghost use Rattle.refusals.specs.Stops.{AtNode};
 
 use lines::Row;
-use number::{NodeNo, Place, Refusal, ThreadNo};
+use number::{NodeNo, Refusal, ThreadNo};
 
 // 12 | next(my) := 0
 pub fn clear_next(b: &mut [u8], row: Row, t: ThreadNo, n: NodeNo) -> Result<(), Refusal>
@@ -109,7 +109,7 @@ pub fn pass_on(b: &mut [u8], row: Row, t: ThreadNo, n: NodeNo) -> Result<(), Ref
     let k = refusals::follow(b, row, t, n)?;
     refusals::place_stop(low)?;
     free(b, k);
-    cells::set_low(b, Place(low.0 + 1));
+    cells::set_low(b, low.behind());
     cells::set_line(b, t, row.2);
     Ok(())
 }

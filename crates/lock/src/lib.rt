@@ -205,8 +205,7 @@ impl Ranged for Thread {
     ghost is_zero_of = { thread_is_zero };
 
     fn in_range(self, nodes: u8) -> bool {
-        (FIRST_LINE <= self.line)
-            & (self.line <= LAST_LINE)
+        (FIRST_LINE..=LAST_LINE).contains(&self.line)
             & (self.my.0 <= nodes)
             & (self.prev.0 <= nodes)
             & (self.succ.0 <= nodes)

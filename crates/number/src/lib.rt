@@ -3,8 +3,8 @@
 // nothing.
 #![tactic(auto)]
 
-ghost use Rattle.std.specs.Prelude.{cond, ◌≡◌};
-ghost use Rattle.number.specs.Numbers.{is_bottom, one_to};
+ghost use Rattle.std.specs.Prelude.{◌+◌, ◌<◌, ◌^◌, ◌≡◌};
+ghost use Rattle.number.specs.Numbers.{behind, is_bottom, one_to};
 ghost use Rattle.number.specs.Answer.{answer_of, number_of, refused_if};
 
 // T threads, 1 to 32, numbered from 1.
@@ -71,7 +71,7 @@ pub fn refuse(test: bool, refusal: Refusal) -> Result<(), Refusal>
 pub fn one_to(most: u8, number: u8) -> bool
     ensures { result ≡ one_to most number }
 {
-    (1 <= number) & (number <= most)
+    (1..=most).contains(&number)
 }
 
 // A thread number, a node number and a place in the queue: a 3 in one is never read as a 3 in another.
@@ -83,6 +83,16 @@ pub struct NodeNo(pub u8);
 
 #[derive(Clone, Copy, Debug, PartialEq, Eq)]
 pub struct Place(pub u32);
+
+impl Place {
+    // The place behind this one.
+    pub fn behind(self) -> Place
+        requires { self.0 + 1 < 2 ^ 32 }
+        ensures { result ≡ behind self }
+    {
+        Place(self.0 + 1)
+    }
+}
 
 impl NodeNo {
     // "Node 0 is the figure's ⊥."

@@ -2,11 +2,11 @@
 // or `refused 2`. It only reads, calls and writes: what is written is what `text` promises. Rests on `text`.
 #![tactic(auto)]
 
-ghost use Rattle.std.specs.Prelude.{◌+◌, ◌≡◌, ◌≤◌, length, take};
+ghost use Rattle.std.specs.Prelude.{IfOk, ◌+◌, ◌≡◌, ◌≤◌, length, take};
 ghost use Rattle.schedule.specs.Schedule.{most_bytes};
 ghost use Rattle.text.specs.Text.{most_text};
 
-use std::io::{Print, Read, Stdin};
+use std::io::{self, Print, Read, Stdin};
 use text::MOST_TEXT;
 
 // One byte more than a schedule may have, so that a longer input is seen to be longer.
@@ -27,22 +27,18 @@ fn text_room() -> [u8; MOST_TEXT]
 }
 
 // Reads until the input ends or `input` is full, in pieces of any size, and gives how many bytes it read.
-// Where a read fails, what was read before is no schedule, and it gives 0, as of an empty input.
-fn read_all(source: &mut Stdin, input: &mut [u8]) -> usize
-    ensures { (result ≤ length input.new) × (result ≡ length (take result input.new)) }
+fn read_all(source: &mut Stdin, input: &mut [u8]) -> io::Result<usize>
+    ensures { IfOk result (λ n. (n ≤ length input.new) × (n ≡ length (take n input.new))) }
 {
     let mut filled = 0;
     while filled < input.len() {
-        let more = match source.read(&mut input[filled..]) {
-            Ok(n) => n,
-            Err(_) => return 0,
-        };
+        let more = source.read(&mut input[filled..])?;
         if more == 0 {
-            return filled;
+            return Ok(filled);
         }
         filled += more;
     }
-    filled
+    Ok(filled)
 }
 
 // Writes the text of the schedule, by way of `out`, or that it is refused. `out` has room for any text, so
@@ -62,7 +58,8 @@ fn write(rt: HostRuntime, bytes: &[u8]) {
 fn main(rt: HostRuntime) {
     let mut input = input_room();
     let mut source = rt.stdin();
-    let n = read_all(&mut source, &mut input);
+    // Where a read fails, what was read before is no schedule, as an empty input is none.
+    let n = read_all(&mut source, &mut input).unwrap_or(0);
     let mut out = text_room();
     print(rt, &input[..n], &mut out);
 }

@@ -28,7 +28,7 @@ pub const MOST_TEXT: usize = 606_235;
 // The heading, with its line end.
 const HEADING: [u8; 40] = *b"n thread line answer tail flag low high\n";
 // Where the first event's line begins.
-const HEADING_LENGTH: usize = 40;
+const HEADING_LENGTH: usize = HEADING.len();
 // No line is longer: eight numbers of at most ten digits, and a byte behind each.
 const LINE_ROOM: usize = 88;
 // No schedule has more events.
