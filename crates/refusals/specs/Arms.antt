@@ -1,11 +1,11 @@
--- What the proofs of the lines use: the line of a thread is one of the nineteen, and a followed node that does not stop the event has a record. Assumes
--- nothing.
-use Rattle.std.specs.Prelude.{not, List, ◌≢◌, ◌≡◌, ℕ, ◌≤◌}
-use Rattle.std.proofs.Common.{Ok, ap, sym, ◌∙◌, arith}
+-- What the proofs of the lines use: the line of a thread is one of the nineteen, and a followed node that does not stop the event has a record. And of an
+-- event that its number stops, or that goes on: what bytes it leaves. Assumes nothing.
+use Rattle.std.specs.Prelude.{Bool, cond, false, not, true, List, ◌≢◌, ◌≡◌, ℕ, ◌≤◌, eqb}
+use Rattle.std.proofs.Common.{Ok, ap, subst, sym, ◌∙◌, arith, eq-eqb, ne_eqb}
 use Rattle.std.proofs.lemmas.Bool.{eqb-false}
-use Rattle.cells.specs.Cells.{HasNode}
+use Rattle.cells.specs.Cells.{HasNode, Held, Leaves}
 use Rattle.cells.specs.Proof.Laws.{nodes_same, threads_same}
-use Rattle.figure.specs.Figure.{line}
+use Rattle.figure.specs.Figure.{◌⟪flag≔◌⟫, ◌⟪locked◌≔◌⟫, line}
 use Rattle.lines.specs.declared.Follow.{Follow}
 use Rattle.lines.specs.declared.Follow.TheVariants.{My, NoNode, Prev, Succ}
 use Rattle.lines.specs.declared.Row.{Row}
@@ -15,12 +15,13 @@ use Rattle.lock.specs.declared.State.{State}
 use Rattle.machine.specs.Acts.{followed_by}
 use Rattle.machine.specs.Proof.Clear.{passed}
 use Rattle.machine.specs.Refusals.{follows_empty}
+use Rattle.machine.specs.Step.{stop_or}
 use Rattle.number.specs.Numbers.{is_bottom}
 use Rattle.number.specs.Refused.{done}
 use Rattle.number.specs.declared.NodeNo.{NodeNo}
 use Rattle.number.specs.declared.ThreadNo.{ThreadNo}
 use Rattle.refusals.specs.Stops.{stop_by}
-use Rattle.refusals.specs.Lines.{Followed, Ready, Strict}
+use Rattle.refusals.specs.Lines.{Followed, Ready, Strict, freed}
 
 -- ---- the record of the node that thread t's line follows
 module _ (b : List ℕ) (t : ThreadNo) (ready : Ready b t) where
@@ -50,9 +51,9 @@ module _ (b : List ℕ) (t : ThreadNo) (ready : Ready b t) where
 -- ---- the record of the node that a line was given to follow
 
 -- a node that is followed whatever it is, is not 0 where nothing stops the event
-there : (f : Follow) (s : State) (k n : NodeNo) → Strict f → stop_by f s k n done ≡ done → 1 ≤ k.0
-there f s k n strict none =
-    let r6 = passed (not (is_bottom n)) 5 _ none in
+pub there : (f : Follow) (s : State) (k n : NodeNo) → Strict f → (later : ℕ) → stop_by f s k n later ≡ done → 1 ≤ k.0
+there f s k n strict later h =
+    let r6 = passed (not (is_bottom n)) 5 _ h in
     let r9 = passed (follows_empty f k) 8 _ r6.1 in
     let z = eqb-false k.0 0 (sym (strict k) ∙ r9.0) in
     omega arith
@@ -66,4 +67,19 @@ module _ {b : List ℕ} {row : Row} {t : ThreadNo} {n k : NodeNo} (ready : Ready
   pub has_followed : Strict row.0 → HasNode b k
   has_followed strict =
       let is = followed.node _ ready.held in
-      has_node b t ready row.0 k is (there row.0 ready.state k n strict (rw is (sym (followed.stop _ ready.held))))
+      has_node b t ready row.0 k is (there row.0 ready.state k n strict done (rw is (sym (followed.stop _ ready.held))))
+
+-- ---- stop, or go on
+
+-- what is given where `stop` is the number of the event
+pub stops : {b : List ℕ} (s s' : State) {m stop : ℕ} → stop ≡ m → stop ≢ done → Held b s
+    → (stop ≡ (stop_or m s s').answer) × Held b (stop_or m s s').state
+stops s s' {m} {stop} e h held = let z : eqb m done ≡ false = rw (← e) (ne_eqb stop done h) in rw z (e, held)
+
+pub goes : {b : List ℕ} (s s' : State) {m stop : ℕ} → stop ≡ m → stop ≡ done → Held b s'
+    → (stop ≡ (stop_or m s s').answer) × Held b (stop_or m s s').state
+goes s s' {m} {stop} e h held = let z : eqb m done ≡ true = rw (← e) (eq-eqb stop done h) in rw z (h, held)
+
+-- ---- a node unlocked, or the flag raised, by whether there is a node
+pub freed_by : {b b' : List ℕ} (k : NodeNo) {x : Bool} → is_bottom k ≡ x → Leaves b b' (λ s. cond x (s ⟪flag≔ 1 ⟫) (s ⟪locked k ≔ 0 ⟫)) → Leaves b b' (freed k)
+freed_by {b} {b'} k e h = subst (λ (x : Bool). Leaves b b' (λ s. cond x (s ⟪flag≔ 1 ⟫) (s ⟪locked k ≔ 0 ⟫))) (sym e) h

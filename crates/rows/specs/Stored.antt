@@ -3,7 +3,7 @@
 use mathlib.Core.List.{List, [], ◌∷◌, ◌++◌, append_assoc, append-nil}
 use Rattle.std.specs.Prelude.{◌≡◌, drop, get_or, length, set}
 use Rattle.std.proofs.Math.Path.{ap, refl, sym}
-use Rattle.std.proofs.Common.{◌∙◌, mul-le-mul_left, mul-zero, zero-add, add-one, arith, drop-cons, get_or-append-add, get_or-drop}
+use Rattle.std.proofs.Common.{◌∙◌, mul-le-mul_left, mul-zero, zero-add, add-one, arith, drop_of_length-le, drop-cons, get_or-append-add, get_or-drop}
 use Prim.Native.Nat.{ℕ, zero, suc, ◌+◌, ◌-◌, ◌*◌, ◌≤◌, ◌<◌}
 use Rattle.std.proofs.Math.Nat.{mul-suc}
 use Rattle.std.proofs.Math.ListN.{get_or-append, length-append}
@@ -63,6 +63,10 @@ module _ (vs o : List ℕ) where
   over_later i l =
       let far : length vs + (i - length vs) ≡ i = omega arith in
       rw far at (get_or-append-add vs (drop (length vs) o) (i - length vs) 0 ∙ get_or-drop (length vs) o (i - length vs) 0)
+
+  -- Over no more bytes than its own it is all there is.
+  pub over_all : length o ≤ length vs → over vs o ≡ vs
+  over_all l = rw (drop_of_length-le o l) (append-nil vs)
 
 -- A turn of a loop that fills a table from the front: the first n places hold p, and the next takes v.
 pub set_behind : {A : Type 0} (p xs : List A) (n : ℕ) (v d : A) → length p ≡ n → n < length xs

@@ -15,7 +15,7 @@ use Rattle.number.specs.Refused.{bad_schedule, done}
 use Rattle.number.specs.declared.Refusal.{Refusal}
 use Rattle.number.specs.Tests.{all_hold_lem, cannot_hold, each_holds}
 use Rattle.schedule.specs.Proof.Judged.{passed, passed_rule, rule_passed}
-use Rattle.schedule.specs.Schedule.{GoodSchedule, NoPlace, event_at, events_in, given, good, one_event}
+use Rattle.schedule.specs.Schedule.{GoodSchedule, NoPlace, event_at, events_in, given, good, most_bytes, one_event}
 use Rattle.schedule.specs.Schedule.{start_of, start_tests, starts_event, stays, width}
 use Rattle.schedule.specs.Given.{Given, given_from}
 
@@ -35,6 +35,12 @@ test_start : (b : List ℕ) (place : ℕ) → good b ≡ true → starts_event b
 test_start b place h t =
     let (behind, (whole, (before, _))) = each_holds (start_tests b place) t in
     omega (arith, leb-true width place behind, eqb-true (place % width) 0 whole, ltb-true place (length b) before, (passed b h).whole)
+
+-- So there are four bytes before an event's start, and four behind it that a schedule has room for.
+pub start_within : (b : List ℕ) (place : ℕ) → good b ≡ true → starts_event b place ≡ true → (width ≤ place) × (place + width ≤ most_bytes)
+start_within b place h t =
+    let p = passed b h in
+    omega (arith, test_start b place h t, p.whole, p.short)
 
 -- ---- an event, and the end
 module _ (b : List ℕ) (h : good b ≡ true) where

@@ -1,13 +1,15 @@
 -- The test of a schedule and the rule agree: `passed_rule` leads from the test to the rule, and `rule_passed` back. Each of the tests stands for one
 -- fact of the rule; the events are judged one at a time (crate `rows`, Places). Assumes nothing.
-use Rattle.std.specs.Prelude.{true, List, ◌≡◌, refl, ℕ, ◌%◌, ◌≤◌, ◌<◌, length}
+use Rattle.std.proofs.Math.Bool.{and-true}
+use Rattle.std.specs.Prelude.{true, List, ◌≡◌, refl, ℕ, ◌*◌, ◌%◌, ◌≤◌, ◌<◌, drop, length}
 use Rattle.std.proofs.Common.{arith, eq-eqb, eqb-true, le-leb, leb-true}
 use Rattle.lock.specs.Judged.{rule_size, size_rule}
 use Rattle.lock.specs.Valid.{Between}
 use Rattle.number.specs.Sizes.{most_nodes, most_threads}
 use Rattle.number.specs.Tests.{all_hold_lem, both_hold, each_holds, first_holds, second_holds}
 use Rattle.rows.specs.Places.{all_good_lem, each_marked, mark_rule, rule_mark}
-use Rattle.rows.specs.Rows.{MarkAt, letter_e, letter_h, letter_s, marked}
+use Rattle.rows.specs.Rows.{MarkAt, good as good_record, letter_e, letter_h, letter_s, marked}
+use Rattle.schedule.specs.Proof.Events.{at_start}
 use Rattle.schedule.specs.Schedule.{GoodSchedule, event_record, events_good, events_in, good, heading_good, heading_of}
 use Rattle.schedule.specs.Schedule.{most_bytes, start_of, tests, width}
 
@@ -18,6 +20,10 @@ heading_rule : (b : List ℕ) → heading_good b ≡ true
 heading_rule b h = (mark_rule b 0 letter_s letter_h (first_holds _ _ h), size_rule _ _ (second_holds (marked letter_s letter_h b) _ h))
 
 -- ---- the events
+
+-- Event i is judged by the mark at its start.
+pub event_judged : (b : List ℕ) (i : ℕ) → good_record event_record (drop (width * i) (drop width b)) ≡ marked letter_s letter_e (drop (start_of i) b)
+event_judged b i = rw (at_start b i, and-true (marked letter_s letter_e (drop (start_of i) b)))
 
 events_rule : (b : List ℕ) → events_good b ≡ true → (i : ℕ) → i < events_in b → MarkAt b (start_of i) letter_s letter_e
 unfolding events_good
