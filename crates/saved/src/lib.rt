@@ -193,6 +193,7 @@ fn is_good<const WIDTH: usize, R: Record<WIDTH>>(b: &[u8], nodes: u8) -> bool
 
 // The first `count` records of b are good. The loop reads all of them: a branch out of it at the first bad
 // one makes the judging of good files slower.
+#[tactic(auto, unfolding(rows::specs::Rows::all_good))]
 fn all_good<const WIDTH: usize, R: Record<WIDTH>>(b: &[u8], count: u8, nodes: u8) -> bool
     requires { WIDTH * count ≤ length b.now }
     ensures { result ≡ all_good (R.kind nodes) count b.now }
@@ -226,6 +227,7 @@ pub fn good(bytes: &[u8]) -> bool
 // ---- reading
 
 // In the first places of a table, as many as `count`, what the records of b say.
+#[tactic(auto, unfolding(rows::specs::Rows::values))]
 fn fill<const WIDTH: usize, R: Record<WIDTH>>(table: &mut [R], count: u8, b: &[u8])
     requires { (count ≤ length table.old) × (WIDTH * count ≤ length b.now) }
     ensures { (K : ℕ) → table.new ≡ values (R.kind K) count b.now ++ drop count table.old }

@@ -1,12 +1,6 @@
 -- `saved::all_good` meets its contract: a turn of the loop judges one record more (Kinds). Assumes nothing.
-use Rattle.std.proofs.Common.{refl}
-use Rattle.rows.specs.Rows.{all_good}
 use Rattle.saved.specs.Proof.Kinds.{judged_more}
 use Rattle.saved.proofs.all_good.Goals as goal
-
-pub loop-i-init : goal.loop-i-init
-unfolding all_good
-loop-i-init g c = refl
 
 pub loop-i-preserved : goal.loop-i-preserved
 loop-i-preserved g c =

@@ -1,5 +1,5 @@
 -- `saved::put_all` meets its contract: a turn of the loop stores one record more (Kinds). Assumes nothing.
-use Rattle.std.proofs.Common.{◌∙◌, arith, refl, take_all}
+use Rattle.std.proofs.Common.{◌∙◌, refl}
 use Rattle.rows.specs.Rows.{laid}
 use Rattle.saved.specs.Proof.Kinds.{stored_more}
 use Rattle.saved.proofs.put_all.Goals as goal
@@ -13,6 +13,3 @@ loop-i-preserved g c K =
     c.put.ensures
     ∙ stored_more _ (g.met.R.Record.laws K) c.args.out.now _ c.args.at c.loop-i.i c.args.table.now _ _ c.loop-i-test.true (c.loop-i.invariant K)
     c.index-table-i.is (c.to_bytes.ensures K)
-
-pub returns : goal.returns
-returns g c K = c.loop-i.invariant K ∙ rw (take_all c.loop-i.i c.args.table.now (omega arith))
