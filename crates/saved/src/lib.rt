@@ -298,6 +298,7 @@ pub fn save(s: State, out: &mut [u8]) -> Result<(), Refusal>
 }
 
 // The bytes of s at the start of a buffer with room for any saved state.
+#[tactic(auto, using(crate::specs::Theorems::saved_size, lock::specs::Judged::valid_rule, lock::specs::Laws::length_mapped))]
 pub fn laid(s: State) -> Buffer<MOST_SAVED>
     requires { valid s ≡ true }
     ensures size { result.size ≡ size_of s }
