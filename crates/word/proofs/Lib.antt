@@ -1,2 +1,2 @@
--- The law of the number of ones, by which `how_many` is proved.
+-- The laws by which `how_many` and `none_from` are proved.
 pub mod Laws

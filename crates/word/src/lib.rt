@@ -52,6 +52,7 @@ pub fn how_many(w: u32) -> u32
 }
 
 // No bit of w is set from bit `nodes` up. (A word has no bit from 32 up, so a larger number is met by every word.)
+#[tactic(auto, using(crate::proofs::Laws::none_from_most))]
 pub fn none_from(w: u32, nodes: u8) -> bool
     ensures { result ≡ none_from w nodes }
 {
