@@ -1,7 +1,8 @@
--- The laws of the crate's loops, over any element, so that the tables of nodes and of threads share them.
---     fill_more      the loop that fills a table from the front is one unfolding of what it computes
---     up_to_parts    a table is judged in two parts
--- Assumes nothing.
+-- The laws by which the crate's functions are proved; those of its loops are over any element, so that the tables of nodes and of threads share them.
+--     fill_more                 the loop that fills a table from the front is one unfolding of what it computes
+--     up_to_parts               a table is judged in two parts
+--     few_nodes, few_threads    T and K are at most the tables' size
+-- Rests on Judged. Assumes nothing.
 use mathlib.Core.Path.{◌≡◌, ap, refl}
 use mathlib.Core.Bool.{Bool, true, ◌&&◌}
 use mathlib.Core.List.{List, [], ◌∷◌, ◌++◌}

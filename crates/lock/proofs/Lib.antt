@@ -1,2 +1,2 @@
--- The laws by which `fresh_state` and `table_valid` are proved.
+-- The laws by which `fresh_state`, `table_valid` and `valid` are proved.
 pub mod Laws
