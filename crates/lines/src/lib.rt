@@ -59,6 +59,7 @@ const LINES: [Row; 19] = [
 
 // The row of a line, at line minus 11. An event asks by a constant, so that the compiler has the row and
 // looks nothing up.
+#[tactic(auto, unfolding(crate::specs::Lines::line_at))]
 pub fn row_of(line: u8) -> Row
     requires { (first_line ≤ line) × (line ≤ last_line) }
     ensures { result ≡ row_of (line_at line) }
