@@ -1,9 +1,9 @@
 -- A saved state is ready for the event of each of its threads: it holds the state that is read from it, which is valid. So the event that is executed in its
 -- bytes is the definition's, and leaves a saved state again. Rests on the round trip of saved states (crate `saved`). Assumes nothing.
-use Rattle.std.specs.Prelude.{false, true, List, ◌≡◌, ℕ}
+use Rattle.std.specs.Prelude.{Bool, false, true, List, ◌≡◌, ℕ}
 use Rattle.std.proofs.Common.{sym}
 use Rattle.std.proofs.Math.Decide.{ℕ_discrete}
-use Rattle.cells.specs.Cells.{HasThread, Held}
+use Rattle.cells.specs.Cells.{HasThread, Held, Shows}
 use Rattle.cells.specs.Proof.Good.{held, laid}
 use Rattle.figure.specs.Figure.{line}
 use Rattle.lock.specs.Judged.{in_table}
@@ -31,6 +31,10 @@ has_thread b t good h =
 module _ (b : List ℕ) (bytes : Bytes b) (good : saved_good b ≡ true) where
   abbrev s : State
   s = state_in b
+
+  -- whether there is no such thread is what the bytes show of it
+  pub no_thread_shown : (t : ThreadNo) {r : Bool} → Shows b r (λ s. no_thread s.shared.threads t) → no_thread s.shared.threads t ≡ r
+  no_thread_shown t shown = sym (shown s (held b bytes good))
 
   module _ (t : ThreadNo) (n : NodeNo) where
     -- 5
