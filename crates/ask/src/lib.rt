@@ -100,6 +100,7 @@ impl<'a> Judged<'a> {
     }
 
     // How many nodes are in use.
+    #[tactic(auto, using(crate::specs::Proof::InUse::nodes_at_most))]
     fn in_use(self) -> u8
         ensures { result ≡ how_many (state_in self.entry.bytes.now).shared.used }
     {
@@ -154,6 +155,7 @@ pub fn waiting_of(b: &[u8]) -> u8
 
 // ---- the calls on the bytes of a saved state: refused by 1 if they break a rule
 
+#[tactic(auto, using(saved::specs::Proof::Held::good_valid, saved::specs::Proof::Held::good_state, saved::specs::Proof::Held::bad_valid))]
 fn judge(bytes: &[u8]) -> Result<Judged, Refusal>
     ensures { let s = (read bytes.now).state in
         MatchResult result (λ j. (valid s ≡ true) × (state_in j.bytes.now ≡ s))
@@ -187,6 +189,7 @@ pub fn in_use_saved(bytes: &[u8]) -> Result<u8, Refusal>
     Ok(judge(bytes)?.in_use())
 }
 
+#[tactic(auto, unfolding(crate::specs::Ask::chain, crate::specs::Ask::chain_bytes, crate::specs::Ask::chain_list, crate::specs::Ask::chain_number))]
 pub fn chain_saved(bytes: &[u8], from: NodeNo, out: &mut [u8]) -> Result<u8, Refusal>
     ensures { (asked_of result ≡ chain_asked (read bytes.now).state from out.old)
         × (out.new ≡ chain_bytes (read bytes.now).state from out.old) }
@@ -236,6 +239,7 @@ pub fn in_use(s: State) -> Result<u8, Refusal>
 
 // The node `from`, its next, and so on, ending before 0 or after K nodes, at the start of `out`. Gives how
 // many.
+#[tactic(auto, unfolding(crate::specs::Ask::chain, crate::specs::Ask::chain_bytes, crate::specs::Ask::chain_list, crate::specs::Ask::chain_number))]
 pub fn chain(s: State, from: NodeNo, out: &mut [u8]) -> Result<u8, Refusal>
     ensures { (asked_of result ≡ chain_asked s from out.old) × (out.new ≡ chain_bytes s from out.old) }
 {

@@ -1,6 +1,6 @@
 -- `ask::Judged::chain_from` meets its contract. Node k stands first in the output, and the chain of its next is written to the rest of it. Rests on Chain.
 -- Assumes nothing.
-use Rattle.std.proofs.Common.{◌≢◌, refl, ◌-◌, arith, length-drop, length-set, length-take}
+use Rattle.std.proofs.Common.{◌≢◌, refl, ◌-◌, arith}
 use Rattle.cells.specs.Proof.Laws.{nodes_same}
 use Rattle.saved.specs.Saved.{state_in}
 use Rattle.ask.specs.Ask.{chain_from, next}
@@ -17,16 +17,6 @@ next-next-requires t c =
     let a = c.args in
     let on : (a.left ≢ 0) × (a.k.0 ≢ 0) = not_here (state_in a.self.bytes.now) (rw c.is_bottom.ensures at c.if-left-is_bottom.false) in
     record { laid = a.self.laid; from = omega arith; to = omega (arith, c.requires, nodes_same _ _ a.self.held) }
-
-pub chain_from-requires : goal.chain_from-requires
-chain_from-requires t c =
-    let a = c.args in
-    let (inside, room) = c.requires in
-    let on : (a.left ≢ 0) × (a.k.0 ≢ 0) = not_here (state_in a.self.bytes.now) (rw c.is_bottom.ensures at c.if-left-is_bottom.false) in
-    -- the next of node k in the state
-    let linked = c.next-next.ensures _ a.self.held in
-    let range = a.self.rule.node a.k (omega arith) inside in
-    (omega arith, (rw linked range.next, simp (length-take, length-drop, length-set) (omega arith)))
 
 pub overflow_add-result : goal.overflow_add-result
 overflow_add-result t c =

@@ -1,7 +1,6 @@
 -- `ask::Judged::chain` meets its contract: its two tests, in their order, and else `chain_from` writes the list. Rests on Answer. Assumes nothing.
 use Rattle.std.specs.Prelude.{ltb}
 use Rattle.std.proofs.Common.{false, true, ◌≡◌, ap, arith, length, ltb-false, ltb-true, ◌∙◌}
-use Rattle.lock.specs.Judged.{in_table}
 use Rattle.number.specs.Refused.{too_short, wrong_node}
 use Rattle.saved.specs.Saved.{state_in}
 use Rattle.ask.specs.Ask.{answered, is_outside, refused}
@@ -25,14 +24,6 @@ returns-in_err-refuse-2 c =
     let off : is_outside c.nodes-nodes.result a.from ≡ true = grind arith in
     let e = c.nodes-nodes.ensures _ a.self.held in
     rw number (chain_outside _ a.from a.out.now a.self.rule (ltb-false _ _ (rw e at room)) (rw e at off))
-
-pub chain_from-requires : goal.chain_from-requires
-chain_from-requires c =
-    let a = c.args in
-    let room : ltb (length a.out.now) c.nodes-nodes.result ≡ false = grind arith in
-    let on : is_outside c.nodes-nodes.result a.from ≡ false = grind arith in
-    let e = c.nodes-nodes.ensures _ a.self.held in
-    ((in_table _ _ (rw e at on)).to, ltb-false _ _ room)
 
 pub returns : goal.returns
 returns c =
