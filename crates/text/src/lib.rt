@@ -37,6 +37,7 @@ const MOST_EVENTS: usize = 16_383;
 // ---- numbers
 
 // The decimal digits of n from a place on; gives the place behind them.
+#[tactic(auto, using(crate::specs::Proof::Digits::decimal_one, crate::specs::Proof::Digits::decimal_more, crate::specs::Proof::Digits::longer, rows::specs::Stored::sets_append))]
 fn put_number(out: &mut [u8], at: usize, n: u32) -> usize
     requires { at + length (decimal n) ≤ length out.old }
     ensures place { result ≡ at + length (decimal n) }
@@ -59,6 +60,7 @@ fn separator(more: bool) -> u8
 }
 
 // The digits of n and the byte behind them; gives the place behind both.
+#[tactic(auto, using(rows::specs::Stored::sets_append))]
 fn put_field(out: &mut [u8], at: usize, n: u32, behind: u8) -> usize
     requires { at + length (decimal n) + 1 ≤ length out.old }
     ensures place { result ≡ at + length (decimal n) + 1 }
@@ -85,6 +87,7 @@ fn put_numbers(out: &mut [u8], at: usize, fields: &[u32]) -> usize
 // ---- lines
 
 // The line that the event's thread is at in a saved state; 0 if there is no such thread.
+#[tactic(auto, using(cells::specs::Proof::Good::laid, cells::specs::Proof::Good::held), unfolding(crate::specs::Text::line_before))]
 fn line_before(b: &[u8], e: Event) -> u8
     requires { saved_good b.now ≡ true }
     ensures { result ≡ line_before (state_in b.now) e }
@@ -96,6 +99,7 @@ fn line_before(b: &[u8], e: Event) -> u8
 }
 
 // The line of event e, the n-th: its thread was at `before`, and b is the saved state after it.
+#[tactic(auto, using(cells::specs::Proof::Good::laid, crate::specs::Proof::Lines::numbers_fit))]
 fn event_line(n: u32, e: Event, before: u8, answer: u8, b: &[u8]) -> Buffer<LINE_ROOM>
     requires { saved_good b.now ≡ true }
     ensures { (s : State) → before ≡ line_before s e
@@ -117,6 +121,7 @@ fn event_line(n: u32, e: Event, before: u8, answer: u8, b: &[u8]) -> Buffer<LINE
 }
 
 // A line from a place on, where it is to be written; gives the place behind it.
+#[tactic(auto, unfolding(crate::specs::Inner::placed))]
 fn put_line(out: &mut [u8], at: usize, line: &[u8], write: bool) -> usize
     requires { LineFits write line.now at out.old }
     ensures place { result ≡ at + length line.now }
@@ -131,6 +136,7 @@ fn put_line(out: &mut [u8], at: usize, line: &[u8], write: bool) -> usize
 // ---- the text
 
 // The state that a schedule is run from, in its bytes.
+#[tactic(auto, using(crate::specs::Proof::Begun::begin_size, crate::specs::Proof::Begun::begin_within, crate::specs::Proof::Begun::begin_stored))]
 fn begin(schedule: Schedule) -> Buffer<MOST_SAVED>
     ensures { take result.size result.bytes ≡ bytes_of (begin_of schedule.entry.bytes.now) }
 {
@@ -173,6 +179,7 @@ fn event_lines(schedule: Schedule, out: &mut [u8], write: bool) -> usize
 
 // The run of a schedule's events on the bytes of the state that they are run from, and the last line:
 // what the run reports, and what can be asked of the state that it ends in.
+#[tactic(auto, using(crate::specs::Proof::Begun::first_good, schedule::specs::Theorems::few_events, crate::specs::Proof::Lines::numbers_fit))]
 fn end_line(b: &mut [u8], schedule: Schedule) -> Buffer<LINE_ROOM>
     requires { b.old ≡ bytes_of (begin_of schedule.bytes.now) }
     ensures { take result.size result.bytes ≡ last_of schedule.entry.bytes.now }
@@ -212,6 +219,7 @@ fn put_text(schedule: Schedule, out: &mut [u8], last: &[u8])
 }
 
 // What is printed for an input that is no schedule.
+#[tactic(auto, unfolding(crate::specs::Decimal::letters_from))]
 pub fn refused_text() -> [u8; 10]
     ensures { result ≡ refused_text }
 {

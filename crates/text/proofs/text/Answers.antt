@@ -13,6 +13,7 @@ use Rattle.text.proofs.Passes.{lines_near}
 use Rattle.text.specs.Text.{last_of, text_bytes, text_of, written}
 use Rattle.text.specs.Text.{text as given}
 use Rattle.text.specs.Written.{written_of}
+use Rattle.text.proofs.text.Goals.{In_err-refuse, In_ok-refuse}
 use Rattle.text.proofs.text.Goals as goal
 
 -- ---- where the schedule is bad
@@ -58,43 +59,41 @@ module _ (b out out' last : List ℕ) (place : ℕ) (passed : Passed false b out
       let l = fits b out rule (omega (arith, ltb-false _ _ h, measured, ap length unchanged)) in
       (omega (arith, ltb-false _ _ h, measured), ap (written done) measured ∙ sym l.0, ap (over (text_of b)) unchanged ∙ sym l.1)
 
+-- the buffer is too short
+too-short : (c : In_err-refuse) → let schedule = c.args.schedule.now in let out = c.args.out.now in
+    (written too_short 0 ≡ given schedule out) × (c.event_lines.new.out ≡ text_bytes schedule out)
+too-short c =
+    let is-short : ltb (length c.event_lines.new.out) (c.event_lines.result + length c.part-line.result.now) ≡ true = grind arith in
+    rw (ap (λ (s : Bor (List ℕ)). s.now) c.in_ok-judged.ensures.same)
+    at (where_short _ _ _ _ _ c.event_lines.ensures (c.part-line.ensures.value ∙ c.last_line-last.ensures) c.in_ok-judged.judged.judged is-short)
+
 pub returns-in_err-refuse-clause-gives : goal.returns-in_err-refuse-clause-gives
 returns-in_err-refuse-clause-gives c =
-    let rule = c.in_ok-judged.judged.judged in
-    let is-short : ltb (length c.event_lines.new.out) (c.event_lines.result + length c.part-line.result.now) ≡ true = grind arith in
     let number : written_of c.from_residual-in_err-refuse.result ≡ written too_short 0 = grind arith in
-    number
-    ∙ (where_short _ _ _ _ _ c.event_lines.ensures (c.part-line.ensures.value ∙ c.last_line-last.ensures) rule is-short).0
-    ∙ ap (λ (s : Bor (List ℕ)). given s.now c.args.out.now) c.in_ok-judged.ensures.same
+    number ∙ (too-short (goal.at.returns-in_err-refuse-clause-gives c).In_err-refuse).0
 
 pub returns-in_err-refuse-clause-stores : goal.returns-in_err-refuse-clause-stores
-returns-in_err-refuse-clause-stores c =
-    let rule = c.in_ok-judged.judged.judged in
-    let is-short : ltb (length c.event_lines.new.out) (c.event_lines.result + length c.part-line.result.now) ≡ true = grind arith in
-    (where_short _ _ _ _ _ c.event_lines.ensures (c.part-line.ensures.value ∙ c.last_line-last.ensures) rule is-short).1
-    ∙ ap (λ (s : Bor (List ℕ)). text_bytes s.now c.args.out.now) c.in_ok-judged.ensures.same
+returns-in_err-refuse-clause-stores c = (too-short (goal.at.returns-in_err-refuse-clause-stores c).In_err-refuse).1
+
+-- it is long enough
+long-enough : (c : In_ok-refuse) → let b = c.in_ok-judged.judged.bytes.now in let out = c.event_lines.new.out in
+    (length (text_of b) ≤ length out) × (written done (c.event_lines.result + length c.part-line.result.now) ≡ given c.args.schedule.now c.args.out.now)
+    × (over (text_of b) out ≡ text_bytes c.args.schedule.now c.args.out.now)
+long-enough c =
+    let is-long : ltb (length c.event_lines.new.out) (c.event_lines.result + length c.part-line.result.now) ≡ false = grind arith in
+    let same = c.in_ok-judged.ensures.same in
+    let l = where_long_enough _ _ _ _ _ c.event_lines.ensures (c.part-line.ensures.value ∙ c.last_line-last.ensures) c.in_ok-judged.judged.judged is-long in
+    (l.0, l.1 ∙ ap (λ (s : Bor (List ℕ)). given s.now c.args.out.now) same, l.2 ∙ ap (λ (s : Bor (List ℕ)). text_bytes s.now c.args.out.now) same)
 
 pub put_text-requires : goal.put_text-requires
-put_text-requires c =
-    let rule = c.in_ok-judged.judged.judged in
-    let is-long : ltb (length c.event_lines.new.out) (c.event_lines.result + length c.part-line.result.now) ≡ false = grind arith in
-    record {
-      last = c.part-line.ensures.value ∙ c.last_line-last.ensures;
-      within = c.part-line.ensures.fits;
-      room = (where_long_enough _ _ _ _ _ c.event_lines.ensures (c.part-line.ensures.value ∙ c.last_line-last.ensures) rule is-long).0;
-    }
+put_text-requires c = record {
+  last = c.part-line.ensures.value ∙ c.last_line-last.ensures;
+  within = c.part-line.ensures.fits;
+  room = (long-enough (goal.at.put_text-requires c).In_ok-refuse).0;
+}
 
 pub returns-clause-gives : goal.returns-clause-gives
-returns-clause-gives c =
-    let rule = c.in_ok-judged.judged.judged in
-    let is-long : ltb (length c.event_lines.new.out) (c.event_lines.result + length c.part-line.result.now) ≡ false = grind arith in
-    (where_long_enough _ _ _ _ _ c.event_lines.ensures (c.part-line.ensures.value ∙ c.last_line-last.ensures) rule is-long).1
-    ∙ ap (λ (s : Bor (List ℕ)). given s.now c.args.out.now) c.in_ok-judged.ensures.same
+returns-clause-gives c = (long-enough (goal.at.returns-clause-gives c).In_ok-refuse).1
 
 pub returns-clause-stores : goal.returns-clause-stores
-returns-clause-stores c =
-    let rule = c.in_ok-judged.judged.judged in
-    let is-long : ltb (length c.event_lines.new.out) (c.event_lines.result + length c.part-line.result.now) ≡ false = grind arith in
-    c.put_text.ensures
-    ∙ (where_long_enough _ _ _ _ _ c.event_lines.ensures (c.part-line.ensures.value ∙ c.last_line-last.ensures) rule is-long).2
-    ∙ ap (λ (s : Bor (List ℕ)). text_bytes s.now c.args.out.now) c.in_ok-judged.ensures.same
+returns-clause-stores c = c.put_text.ensures ∙ (long-enough (goal.at.returns-clause-stores c).In_ok-refuse).2

@@ -50,6 +50,9 @@ decimal_more n large h =
     from_ten 9 n large
     ∙ ap (λ ds. ds ++ digit (n % 10) ∷ []) (more_allowed 8 (n / 10) (omega arith))
 
+pub longer : (n : ℕ) → 10 ≤ n → n < 2 ^ 32 → length (decimal n) ≡ length (decimal (n / 10)) + 1
+longer n large h = ap length (decimal_more n large h) ∙ length-append (decimal (n / 10)) (digit (n % 10) ∷ [])
+
 -- ---- how many there are
 
 -- at most as many as are allowed ..
