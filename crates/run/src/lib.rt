@@ -63,6 +63,7 @@ fn judged_with<'a>(s: State, schedule: &'a [u8], room: usize) -> Result<Schedule
 }
 
 // The schedule, or the first of 1 to 4 that applies to a run from the state that the bytes hold.
+#[tactic(auto, using(cells::specs::Proof::Good::laid, saved::specs::Proof::Held::bad_valid), unfolding(crate::specs::Run::refusal))]
 fn judged_with_saved<'a>(
     bytes: &[u8],
     schedule: &'a [u8],
