@@ -67,6 +67,7 @@ fn unread_from(schedule: &[u8], report: Report) -> usize
 // A run from the saved state: its stopping number, or 0; 1 to 4 come before the first event and change
 // nothing.
 #[unsafe(no_mangle)]
+#[tactic(auto, using(crate::proofs::RunLeft::left_is))]
 pub extern "C" fn sedge_run(
     bytes: &mut [u8],
     schedule: &[u8],
