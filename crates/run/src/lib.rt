@@ -163,6 +163,7 @@ fn run_laid(b: &mut [u8], schedule: Schedule, answers: &mut [u8]) -> Ran
 
 // Refusals 1 to 4 change nothing and give the state as it came; then each event's answer is stored at its
 // place, up to the stop.
+#[tactic(auto, using(saved::specs::Proof::Held::bytes_good, crate::specs::Proof::Refused::passed), unfolding(crate::specs::Run::run, crate::specs::Run::run_bytes))]
 pub fn run(s: State, schedule: &[u8], answers: &mut [u8]) -> Ran
     ensures gives { result ≡ run_of s schedule.now answers.old }
     ensures stores { answers.new ≡ run_bytes s schedule.now answers.old }
