@@ -79,6 +79,7 @@ impl<'a> Judged<'a> {
     }
 
     // Free, if tail is 0 and flag is 1; else held, if some thread is at 20 to 29; else passing.
+    #[tactic(auto, unfolding(crate::specs::Ask::status_of))]
     fn status(self) -> LockStatus
         ensures { number_of_status result ≡ status_of (state_in self.entry.bytes.now) }
     {
