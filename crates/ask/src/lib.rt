@@ -4,12 +4,12 @@
 // for the bytes, on `saved` and `lock` for judging, and on `lines` for the table.
 #![tactic(auto)]
 
-ghost use Rattle.std.specs.Prelude.{Bool, false, true, MatchResult, ℕ, ◌≡◌, ◌≤◌, length};
+ghost use Rattle.std.specs.Prelude.{Bool, false, true, MatchResult, ℕ, ◌≡◌, ◌≤◌, length, take};
 ghost use Rattle.ask.specs.Ask.{asked_status, chain as chain_asked, chain_bytes, chain_from, how_many_threads};
 ghost use Rattle.ask.specs.Ask.{is_counted, is_waiting, nodes_in_use, number_of_status};
 ghost use Rattle.ask.specs.Ask.{status as status_asked, status_of, waiting as waiting_asked};
 ghost use Rattle.ask.specs.Asked.{asked_of};
-ghost use Rattle.ask.specs.Inner.{OfLine};
+ghost use Rattle.ask.specs.Inner.{Holds, OfLine};
 ghost use Rattle.cells.specs.Cells.{Held, Laid};
 ghost use Rattle.lock.specs.Valid.{Between, Valid, valid};
 ghost use Rattle.number.specs.Sizes.{first_line, last_line};
@@ -20,6 +20,7 @@ ghost use Rattle.word.specs.Word.{how_many};
 use lines::Wait;
 use lock::State;
 use number::{LAST_LINE, NodeNo, Refusal, ThreadNo, one_to, refuse};
+use rows::Buffer;
 use saved::MOST_SAVED;
 
 // The lock is held by a thread at 20 to 29.
@@ -200,15 +201,13 @@ pub fn chain_saved(bytes: &[u8], from: NodeNo, out: &mut [u8]) -> Result<u8, Ref
 
 // ---- the calls on a state by value: refused by 1 if it breaks a rule
 
-// The bytes of the state, which are laid into `room`.
-fn judge_in<'a>(s: State, room: &'a mut [u8; MOST_SAVED]) -> Result<Judged<'a>, Refusal>
-    ensures { MatchResult result (λ j. (valid s ≡ true) × (state_in j.bytes.now ≡ s))
+// The bytes of the state, in a buffer.
+fn laid(s: State) -> Result<Buffer<MOST_SAVED>, Refusal>
+    ensures { MatchResult result (λ laid. (valid s ≡ true) × Holds s (take laid.size laid.bytes))
         (λ r. (valid s ≡ false) × (r ≡ Refusal.BadState)) }
 {
     refuse(!lock::valid(s), Refusal::BadState)?;
-    saved::put_state(s, room);
-    let long = saved::size(s.shared.threads, s.shared.nodes);
-    Ok(Judged::new(&room[..long]))
+    Ok(saved::laid(s))
 }
 
 // Whether the lock is free, held or passing.
@@ -216,8 +215,8 @@ fn judge_in<'a>(s: State, room: &'a mut [u8; MOST_SAVED]) -> Result<Judged<'a>, 
 pub fn status(s: State) -> Result<LockStatus, Refusal>
     ensures { asked_status result ≡ status_asked s }
 {
-    let mut room = [0; MOST_SAVED];
-    Ok(judge_in(s, &mut room)?.status())
+    let laid = laid(s)?;
+    Ok(Judged::new(laid.part()).status())
 }
 
 // The number of threads at line 16 or 19.
@@ -225,8 +224,8 @@ pub fn status(s: State) -> Result<LockStatus, Refusal>
 pub fn waiting(s: State) -> Result<u8, Refusal>
     ensures { asked_of result ≡ waiting_asked s }
 {
-    let mut room = [0; MOST_SAVED];
-    Ok(judge_in(s, &mut room)?.waiting())
+    let laid = laid(s)?;
+    Ok(Judged::new(laid.part()).waiting())
 }
 
 // How many nodes are in use.
@@ -234,8 +233,8 @@ pub fn waiting(s: State) -> Result<u8, Refusal>
 pub fn in_use(s: State) -> Result<u8, Refusal>
     ensures { asked_of result ≡ nodes_in_use s }
 {
-    let mut room = [0; MOST_SAVED];
-    Ok(judge_in(s, &mut room)?.in_use())
+    let laid = laid(s)?;
+    Ok(Judged::new(laid.part()).in_use())
 }
 
 // The node `from`, its next, and so on, ending before 0 or after K nodes, at the start of `out`. Gives how
@@ -244,6 +243,6 @@ pub fn in_use(s: State) -> Result<u8, Refusal>
 pub fn chain(s: State, from: NodeNo, out: &mut [u8]) -> Result<u8, Refusal>
     ensures { (asked_of result ≡ chain_asked s from out.old) × (out.new ≡ chain_bytes s from out.old) }
 {
-    let mut room = [0; MOST_SAVED];
-    judge_in(s, &mut room)?.chain(from, out)
+    let laid = laid(s)?;
+    Judged::new(laid.part()).chain(from, out)
 }

@@ -3,6 +3,8 @@
 // by name, the shared numbers, those of a node and those of a thread. Every place is known here and nowhere
 // above, and a thread's number never finds a node, nor a node's a thread. Rests on `number` for the kinds
 // of number, and on `saved` for the layout.
+// The calls take bytes and say that they are laid out, and no struct that holds them does: each setter would
+// have to say that the struct still holds the same reference (docs/DESIGN-PASS.md).
 #![tactic(auto)]
 
 ghost use Rattle.std.specs.Prelude.{◌+◌, ◌<◌, ◌≤◌, ◌≡◌, get_or, length};

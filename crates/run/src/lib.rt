@@ -110,7 +110,8 @@ fn refused(refusal: Refusal) -> Report
 // ---- the run
 
 // The events of a good schedule, on the bytes of a saved state that was judged before, with room for each
-// answer. Each is executed in the bytes where they stand.
+// answer. Each is executed in the bytes where they stand. (By number: of a `zip` with the answers the proof
+// loses what was stored.)
 pub fn run_events(b: &mut [u8], schedule: &[u8], answers: &mut [u8]) -> Report
     requires { (saved_good b.old ≡ true) × (good schedule.now ≡ true) × (events_in schedule.now ≤ length answers.old) }
     ensures gives { result ≡ (ran_over (state_in b.old) schedule.now).report }
@@ -163,7 +164,7 @@ fn run_laid(b: &mut [u8], schedule: Schedule, answers: &mut [u8]) -> Ran
 
 // Refusals 1 to 4 change nothing and give the state as it came; then each event's answer is stored at its
 // place, up to the stop.
-#[tactic(auto, using(saved::specs::Proof::Held::bytes_good, crate::specs::Proof::Refused::passed), unfolding(crate::specs::Run::run, crate::specs::Run::run_bytes))]
+#[tactic(auto, using(saved::specs::Proof::Held::laid_good, crate::specs::Proof::Refused::passed), unfolding(crate::specs::Run::run, crate::specs::Run::run_bytes))]
 pub fn run(s: State, schedule: &[u8], answers: &mut [u8]) -> Ran
     ensures gives { result ≡ run_of s schedule.now answers.old }
     ensures stores { answers.new ≡ run_bytes s schedule.now answers.old }

@@ -12,7 +12,7 @@ use text::MOST_TEXT;
 // One byte more than a schedule may have, so that a longer input is seen to be longer.
 const MOST_READ: usize = 65_537;
 
-// Room for any schedule, and a byte more.
+// Room for any schedule, and a byte more. (This and `text_room` say which number of document 01 theirs is.)
 fn input_room() -> [u8; MOST_READ]
     ensures { most_bytes + 1 ≡ length result }
 {
@@ -27,6 +27,7 @@ fn text_room() -> [u8; MOST_TEXT]
 }
 
 // Reads until the input ends or `input` is full, in pieces of any size, and gives how many bytes it read.
+// (The library's `read_to_end` would need a heap.)
 fn read_all(source: &mut Stdin, input: &mut [u8]) -> io::Result<usize>
     ensures { IfOk result (λ n. (n ≤ length input.new) × (n ≡ length (take n input.new))) }
 {

@@ -22,7 +22,7 @@ fn advance(b: &mut [u8], t: ThreadNo, n: NodeNo) -> Result<State, Refusal>
 
 // One event: refusal 1, and then 5 to 12, the first that applies; else the state with the line's changes and
 // nothing else changed.
-#[tactic(auto, using(saved::specs::Proof::Held::bytes_good), unfolding(machine::specs::Step::step))]
+#[tactic(auto, using(saved::specs::Proof::Held::laid_good), unfolding(machine::specs::Step::step))]
 pub fn step(s: State, t: ThreadNo, n: NodeNo) -> Result<State, Refusal>
     ensures { stepped_from s result ≡ step_of s t n }
 {

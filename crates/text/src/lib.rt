@@ -36,7 +36,8 @@ const MOST_EVENTS: usize = 16_383;
 
 // ---- numbers
 
-// The decimal digits of n from a place on; gives the place behind them.
+// The decimal digits of n from a place on; gives the place behind them. (By hand: the library's `itoa` was
+// slower, and so was a vector of fixed room in place of a buffer and a place; docs/DESIGN-PASS.md.)
 #[tactic(auto, using(crate::specs::Proof::Digits::decimal_one, crate::specs::Proof::Digits::decimal_more, crate::specs::Proof::Digits::longer, rows::specs::Stored::sets_append))]
 fn put_number(out: &mut [u8], at: usize, n: u32) -> usize
     requires { at + length (decimal n) ≤ length out.old }

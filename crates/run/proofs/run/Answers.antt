@@ -2,11 +2,11 @@
 use Rattle.std.proofs.Common.{sym, ◌∙◌, ap}
 use Rattle.number.specs.Answer.{answer_of}
 use Rattle.run.specs.Run.{run, run_bytes}
-use Rattle.saved.specs.Proof.Held.{bytes_good}
+use Rattle.saved.specs.Proof.Held.{laid_good}
 use Rattle.run.proofs.run.Goals as goal
 
 pub returns-in-Ok : goal.returns-in-Ok
 unfolding run run_bytes
 returns-in-Ok c =
-    let lent = rw (← c.laid-laid.ensures.size) at (bytes_good _ _ c.laid-laid.ensures.laid.rule c.laid-laid.ensures.laid.bytes) in
+    let lent = laid_good c.laid-laid.ensures.size c.laid-laid.ensures.laid in
     rw (sym c.judged_with.ensures.refusal ∙ ap answer_of c.in-Ok.is, ← lent.1, ← c.in-Ok.ensures.same) c.run_laid.ensures
