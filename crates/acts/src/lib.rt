@@ -3,6 +3,7 @@
 // nothing, or stores only what document 01 says that the line changes, and goes on to the follow-on line of
 // its row. (The lines that follow a node are crate `follows`.) Rests on `refusals`, and on `cells` for the
 // bytes.
+// A row, a thread and a node are three arguments, since each is handed on by itself.
 #![tactic(auto)]
 
 ghost use Rattle.number.specs.Answer.{answer_of};

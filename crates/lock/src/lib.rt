@@ -170,7 +170,8 @@ pub fn fresh(threads: u8, nodes: u8) -> Result<State, Refusal>
 
 // ---- the rule of a state that is not in bytes
 
-// What the rule asks of an entry of a table, a node or a thread: within T or K its numbers are in their ranges, and past it each is 0.
+// What the rule asks of an entry of a table, a node or a thread: within T or K its numbers are in their
+// ranges, and past it each is 0.
 pub trait Ranged: Copy {
     ghost in_range_of: { ℕ → Self → Bool };
 
