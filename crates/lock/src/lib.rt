@@ -86,21 +86,28 @@ fn zero_thread() -> Thread
     thread_at_line(0)
 }
 
+// The shared numbers, each 0.
+fn zero_shared() -> Shared
+    ensures { result ≡ zero_state.shared }
+{
+    Shared {
+        threads: 0,
+        nodes: 0,
+        flag: 0,
+        tail: NodeNo::BOTTOM,
+        mess: NodeNo::BOTTOM,
+        low: Place(0),
+        high: Place(0),
+        entered: 0,
+        used: 0,
+    }
+}
+
 pub fn zero_state() -> State
     ensures { result ≡ zero_state }
 {
     State {
-        shared: Shared {
-            threads: 0,
-            nodes: 0,
-            flag: 0,
-            tail: NodeNo::BOTTOM,
-            mess: NodeNo::BOTTOM,
-            low: Place(0),
-            high: Place(0),
-            entered: 0,
-            used: 0,
-        },
+        shared: zero_shared(),
         node: [zero_node(); MOST_NODES as usize],
         thread: [zero_thread(); MOST_THREADS as usize],
     }
@@ -122,7 +129,7 @@ pub fn idle_thread() -> Thread
     thread_at_line(FIRST_LINE)
 }
 
-// The shared numbers of a fresh state.
+// The shared numbers of a fresh state: "every other number 0".
 pub fn fresh_shared(threads: u8, nodes: u8) -> Shared
     ensures { result ≡ fresh_shared threads nodes }
 {
@@ -130,12 +137,9 @@ pub fn fresh_shared(threads: u8, nodes: u8) -> Shared
         threads,
         nodes,
         flag: 1,
-        tail: NodeNo::BOTTOM,
-        mess: NodeNo::BOTTOM,
         low: Place(1),
         high: Place(1),
-        entered: 0,
-        used: 0,
+        ..zero_shared()
     }
 }
 
