@@ -1,17 +1,15 @@
 -- Laws of stores: bytes that are stored one after the other, from the list library's `sets` (a list of values stored from a place on).
 -- By induction over what is stored. Assumes nothing.
 use mathlib.Core.List.{List, [], ◌∷◌, ◌++◌, append_assoc, append-nil}
-use Rattle.std.specs.Prelude.{◌≡◌, drop, get_or, length, set}
-use Rattle.std.proofs.Math.Path.{ap, refl, sym}
-use Rattle.std.proofs.Common.{◌∙◌, mul-le-mul_left, mul-zero, zero-add, add-one, arith, drop_of_length-le, drop-cons, get_or-append-add, get_or-drop}
+use Rattle.std.specs.Prelude.{◌≡◌, drop, get_or, length, set, take}
+use Rattle.std.proofs.Math.Path.{ap, sym}
+use Rattle.std.proofs.Common.{◌∙◌, le_of_lt, mul-le-mul_left, mul-zero, zero-add, add-one, arith, drop_of_length-le, drop-cons, get_or-append-add, get_or-drop, length-take-le, take-suc}
 use Prim.Native.Nat.{ℕ, zero, suc, ◌+◌, ◌-◌, ◌*◌, ◌≤◌, ◌<◌}
 use Rattle.std.proofs.Math.Nat.{mul-suc}
 use Rattle.std.proofs.Math.ListN.{get_or-append, length-append}
-use Rattle.std.proofs.Math.Seq.{append_snoc, take_all}
+use Rattle.std.proofs.Math.Seq.{append_snoc}
 use Rattle.std.proofs.lemmas.List.{set_at}
 use Rattle.std.proofs.lemmas.List.Edits.{sets, sets-eq}
-use Rattle.std.proofs.lemmas.Slice.{put_mid-paste}
-use borrow.Rule.Slice.PartMut.{put_mid}
 use Rattle.rows.specs.Rows.{over, times}
 
 -- Storing p and then q behind it is storing both.
@@ -26,11 +24,11 @@ sets_over vs o h =
     let z : 0 + length vs ≤ length o = omega arith in
     rw (sets-eq vs o 0 z, zero-add (length vs))
 
--- A part of o that is written as r: r stands there.
-pub part_stored : (o r r' : List ℕ) (at : ℕ) → r' ≡ r → at + length r ≤ length o → put_mid at (at + length r - at) o r' ≡ sets o at r
-part_stored o r r' at e h =
-    let pasted = put_mid-paste at (at + length r - at) o r' r (length r) e (omega arith) refl in
-    rw (pasted, sets-eq r o at h, take_all (length r) r (omega arith))
+-- A turn of the loop that stores bytes: one byte more of r stands from `at` on.
+pub byte_more : (o : List ℕ) (at i : ℕ) (r : List ℕ) → i < length r → set (sets o at (take i r)) (at + i) (get_or r i 0) ≡ sets o at (take (i + 1) r)
+byte_more o at i r h =
+    let l : length (take i r) ≡ i = length-take-le i r (le_of_lt h) in
+    rw (add-one i, take-suc r i 0 h, sets_append o at (take i r) (get_or r i 0 ∷ []), l)
 
 -- ---- copies of r
 module _ (r : List ℕ) where
