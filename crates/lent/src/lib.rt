@@ -10,6 +10,7 @@ use number::{NodeNo, Refusal, ThreadNo};
 
 // One event of the saved state: refusal 1 if the bytes break a rule, and then 5 to 12, the first that
 // applies. A refusal changes no byte.
+#[tactic(auto, using(crate::specs::Proof::Event::bad_answer, crate::specs::Proof::Event::bad_stays))]
 pub fn step_saved(bytes: &mut [u8], t: ThreadNo, n: NodeNo) -> Result<(), Refusal>
     ensures { (answer_of result ≡ lent_answer bytes.old t n) × (bytes.new ≡ lent_bytes bytes.old t n) }
 {

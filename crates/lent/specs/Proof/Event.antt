@@ -23,10 +23,11 @@ use Rattle.lent.specs.Proof.Answer.{of_accepted, of_bad, of_read, of_refused}
 use Rattle.lent.specs.Proof.Read.{step_advances}
 
 -- bytes that break a rule are answered 1, and stay
-pub bad : (b : List ℕ) (t : ThreadNo) (n : NodeNo) → saved_good b ≡ false → (bad_state ≡ lent_answer b t n) × (b ≡ lent_bytes b t n)
-bad b t n h =
-    let answer = of_bad b t n (λ e. false≢true (sym h ∙ done_good b e)) in
-    (sym answer, sym (of_refused b t n (λ e. omega (arith, answer, e))))
+pub bad_answer : (b : List ℕ) (t : ThreadNo) (n : NodeNo) → saved_good b ≡ false → lent_answer b t n ≡ bad_state
+bad_answer b t n h = of_bad b t n (λ e. false≢true (sym h ∙ done_good b e))
+
+pub bad_stays : (b : List ℕ) (t : ThreadNo) (n : NodeNo) → saved_good b ≡ false → lent_bytes b t n ≡ b
+bad_stays b t n h = of_refused b t n (λ e. omega (arith, bad_answer b t n h, e))
 
 -- ---- good bytes
 module _ (b : List ℕ) (bytes : Bytes b) (t : ThreadNo) (n : NodeNo) (good : saved_good b ≡ true) where
