@@ -110,21 +110,22 @@ fn refused(refusal: Refusal) -> Report
 // ---- the run
 
 // The events of a good schedule, on the bytes of a saved state that was judged before, with room for each
-// answer. Each is executed in the bytes where they stand. (By number: of a `zip` with the answers the proof
-// loses what was stored.)
+// answer. They are taken from a `Schedule`, so that nothing is judged again, and each is executed in the
+// bytes where they stand. (By number: of a `zip` with the answers the proof loses what was stored.)
 pub fn run_events(b: &mut [u8], schedule: &[u8], answers: &mut [u8]) -> Report
     requires { (saved_good b.old ≡ true) × (good schedule.now ≡ true) × (events_in schedule.now ≤ length answers.old) }
     ensures gives { result ≡ (ran_over (state_in b.old) schedule.now).report }
     ensures leaves { b.new ≡ bytes_of (ran_over (state_in b.old) schedule.now).state }
     ensures stores { answers.new ≡ over (answers_of (state_in b.old) schedule.now) answers.old }
 {
+    let judged = Schedule { bytes: schedule };
     let mut report = Report {
         executed: 0,
         waited: 0,
         stop: DONE,
     };
-    for i in 0..schedule::events_in(schedule) {
-        let e = schedule::event_at(schedule, i);
+    for i in 0..judged.len() {
+        let e = judged.event(i);
         let answer = event::event(b, e.thread, e.node);
         answers[i] = answer_number(answer);
         match answer {

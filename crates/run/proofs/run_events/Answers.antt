@@ -53,7 +53,7 @@ next_of : (c : After-answer_number) → let s₀ = state_in c.args.b.now in let 
     × (saved_good c.event-answer.new.b ≡ true)
 next_of c =
     let inside : c.loop-i.i < events_in c.args.schedule.now = omega arith in
-    told (state_in c.args.b.now) c.args.schedule.now c.loop-i.b c.loop-i.invariant.good inside c.event_at-e.result c.event_at-e.ensures c.event-answer.ensures
+    told (state_in c.args.b.now) c.args.schedule.now c.loop-i.b c.loop-i.invariant.good inside c.event-e.result c.event-e.ensures c.event-answer.ensures
 
 pub overflow_add-report : goal.overflow_add-report
 overflow_add-report c = omega (arith, counts _ c.args.schedule.now c.loop-i.invariant.so_far c.requires.1)
