@@ -6,7 +6,7 @@ use Rattle.std.proofs.Math.Bool.{and-true}
 use Rattle.std.proofs.lemmas.Bool.Decides.{nat_tests}
 use Rattle.std.proofs.lemmas.Iterator.{YieldsList}
 use Rattle.std.specs.Iterator.{AlwaysYields}
-use Rattle.std.specs.List.{list_all, starts_with}
+use Rattle.std.specs.List.{fold, list_all, starts_with}
 use Rattle.std.specs.Simd.{first_chunks}
 use Rattle.std.specs.Slice.Iter.{chunks_exact_rest, chunks_exact_size, chunks_exact_steps}
 use Rattle.std.specs.declared.slice.ChunksExact.{ChunksExact}
@@ -35,6 +35,13 @@ records_of {s} r is size = record { runs = records_lem (length r / width) s r is
 -- the test of a mark, of a record and of what stands from there on
 abbrev pub mark_test : List ℕ → Bool
 mark_test r = starts_with eqb r (letter_s ∷ letter_e ∷ [])
+
+-- Tests that are folded are the test of all.
+pub folded : (ok : Bool) (rs : List (List ℕ)) → fold (λ a r. a && mark_test r) ok rs ≡ ok && list_all mark_test rs
+folded true [] = refl
+folded false [] = refl
+folded true (r ∷ rs) = folded (mark_test r) rs
+folded false (r ∷ rs) = folded false rs
 
 same_test : (a b : ℕ) → eqb a b ≡ eqb b a
 same_test a b = grind (arith, nat_tests)

@@ -78,14 +78,15 @@ fn heading_good(schedule: &[u8]) -> bool
     schedule.starts_with(b"SH") && lock::in_size(h.threads, h.nodes)
 }
 
-// The mark `SE` at each event behind the heading.
+// The mark `SE` at each event behind the heading. `fold` reads all of them: with `all`, which leaves at the
+// first bad one, the compiler tests one mark at a time.
 fn events_good(schedule: &[u8]) -> bool
     requires { width ≤ length schedule.now }
     ensures { result ≡ events_good schedule.now }
 {
     schedule[WIDTH..]
         .chunks_exact(WIDTH)
-        .all(|record| record.starts_with(b"SE"))
+        .fold(true, |ok, record| ok & record.starts_with(b"SE"))
 }
 
 // The bytes are a schedule: not too many, a heading and whole events.
