@@ -8,7 +8,7 @@ ghost use Rattle.std.proofs.lemmas.List.Edits.{sets};
 ghost use Rattle.rows.specs.Rows.{times};
 
 // r in out from a place on. (By its bytes: with the library's `copy_from_slice` the built code asked, copy
-// by copy, whether r lies in out, and storing the nodes of a fresh state took up to three times as long.)
+// by copy, whether r lies in out, and storing the nodes of a fresh state took three times as long.)
 #[tactic(auto, using(crate::specs::Stored::byte_more))]
 pub fn put(out: &mut [u8], at: usize, r: &[u8])
     requires { at + length r.now ≤ length out.old }
