@@ -3,7 +3,8 @@
 use mathlib.Core.List.{List, [], ◌∷◌, ◌++◌, append_assoc, append-nil}
 use Rattle.std.specs.Prelude.{◌≡◌, drop, get_or, length, set, take}
 use Rattle.std.proofs.Math.Path.{ap, sym}
-use Rattle.std.proofs.Common.{◌∙◌, le_of_lt, mul-le-mul_left, mul-zero, zero-add, add-one, arith, drop_of_length-le, drop-cons, get_or-append-add, get_or-drop, length-take-le, take-suc}
+use Rattle.std.proofs.Common.{◌∙◌, mul-le-mul_left, mul-zero, zero-add, add-one, arith, drop_of_length-le, drop-cons, get_or-append-add, get_or-drop}
+use Rattle.std.proofs.Common.{le_of_lt, length-take-le, take-suc}
 use Prim.Native.Nat.{ℕ, zero, suc, ◌+◌, ◌-◌, ◌*◌, ◌≤◌, ◌<◌}
 use Rattle.std.proofs.Math.Nat.{mul-suc}
 use Rattle.std.proofs.Math.ListN.{get_or-append, length-append}
@@ -25,7 +26,8 @@ sets_over vs o h =
     rw (sets-eq vs o 0 z, zero-add (length vs))
 
 -- A turn of the loop that stores bytes: one byte more of r stands from `at` on.
-pub byte_more : (o : List ℕ) (at i : ℕ) (r : List ℕ) → i < length r → set (sets o at (take i r)) (at + i) (get_or r i 0) ≡ sets o at (take (i + 1) r)
+pub byte_more : (o : List ℕ) (at i : ℕ) (r : List ℕ) → i < length r →
+    set (sets o at (take i r)) (at + i) (get_or r i 0) ≡ sets o at (take (i + 1) r)
 byte_more o at i r h =
     let l : length (take i r) ≡ i = length-take-le i r (le_of_lt h) in
     rw (add-one i, take-suc r i 0 h, sets_append o at (take i r) (get_or r i 0 ∷ []), l)

@@ -36,8 +36,12 @@ records_of {s} r is size = record { runs = records_lem (length r / width) s r is
 abbrev pub mark_test : List ℕ → Bool
 mark_test r = starts_with eqb r (letter_s ∷ letter_e ∷ [])
 
+-- a record more, behind those that were tested
+abbrev pub mark_more : Bool → List ℕ → Bool
+mark_more ok r = ok && mark_test r
+
 -- Tests that are folded are the test of all.
-pub folded : (ok : Bool) (rs : List (List ℕ)) → fold (λ a r. a && mark_test r) ok rs ≡ ok && list_all mark_test rs
+pub folded : (ok : Bool) (rs : List (List ℕ)) → fold mark_more ok rs ≡ ok && list_all mark_test rs
 folded true [] = refl
 folded false [] = refl
 folded true (r ∷ rs) = folded (mark_test r) rs

@@ -53,7 +53,9 @@ next_of : (c : After-answer_number) → let s₀ = state_in c.args.b.now in let 
     × (saved_good c.event-answer.new.b ≡ true)
 next_of c =
     let inside : c.loop-i.i < events_in c.args.schedule.now = omega arith in
-    told (state_in c.args.b.now) c.args.schedule.now c.loop-i.b c.loop-i.invariant.good inside c.event-e.result c.event-e.ensures c.event-answer.ensures
+    let kept_good = c.loop-i.invariant.good in
+    let given = c.event-e.ensures in
+    told (state_in c.args.b.now) c.args.schedule.now c.loop-i.b kept_good inside c.event-e.result given c.event-answer.ensures
 
 pub overflow_add-report : goal.overflow_add-report
 overflow_add-report c = omega (arith, counts _ c.args.schedule.now c.loop-i.invariant.so_far c.requires.1)
